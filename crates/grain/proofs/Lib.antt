@@ -1,0 +1,9 @@
+pub mod Below
+pub mod Columns
+pub mod MonthSets
+pub mod Rounding
+pub mod Scans
+pub mod Sums
+pub mod ValidDates
+pub mod Verdicts
+pub mod Marked

@@ -1,0 +1,38 @@
+-- What a date that is one says of its numbers.
+use Prim.Native.Nat.{ℕ, _≤_}
+use mathlib.Core.Path.{_≡_}
+use mathlib.Core.Bool.{true, _&&_}
+use lib.Dec.{leb}
+use borrow.Author.Tests.{leb-true}
+use Rattle.grain.specs.Dates.{monthLength, isDate}
+use Rattle.grain.proofs.Below.{and-left, and-right}
+
+pub record ValidDate (year month day : ℕ) : Type 0 where
+  pub first : 2000 ≤ year
+  pub last : year ≤ 2098
+  pub someMonth : 1 ≤ month
+  pub lastMonth : month ≤ 12
+  pub someDay : 1 ≤ day
+  pub lastDay : day ≤ monthLength year month
+
+pub valid-date : (year month day : ℕ) → isDate year month day ≡ true → ValidDate year month day
+unfolding isDate
+valid-date year month day e =
+    let a = leb 2000 year in
+    let b = leb year 2098 in
+    let c = leb 1 month in
+    let d = leb month 12 in
+    let f = leb 1 day in
+    let g = leb day (monthLength year month) in
+    let e₅ = and-left (a && b && c && d && f) g e in
+    let e₄ = and-left (a && b && c && d) f e₅ in
+    let e₃ = and-left (a && b && c) d e₄ in
+    let e₂ = and-left (a && b) c e₃ in
+    record {
+      first = leb-true _ _ (and-left a b e₂);
+      last = leb-true _ _ (and-right a b e₂);
+      someMonth = leb-true _ _ (and-right (a && b) c e₃);
+      lastMonth = leb-true _ _ (and-right (a && b && c) d e₄);
+      someDay = leb-true _ _ (and-right (a && b && c && d) f e₅);
+      lastDay = leb-true _ _ (and-right (a && b && c && d && f) g e);
+    }

@@ -1,0 +1,9 @@
+pub mod Lists
+pub mod Products
+pub mod Prices
+pub mod Amounts
+pub mod Dates
+pub mod Spot
+pub mod Check
+pub mod Refusals
+pub mod Margin

@@ -1,0 +1,22 @@
+-- The number that a refused call returns, by name.
+use Prim.Native.Nat.{ℕ}
+
+-- no such date
+abbrev pub noSuchDate : ℕ
+noSuchDate = 3
+
+-- no such product, or size not offered for it
+abbrev pub noSuchProduct : ℕ
+noSuchProduct = 5
+
+-- a season file misshapen
+abbrev pub misshapen : ℕ
+misshapen = 6
+
+-- price or settlement out of range or off its tick
+abbrev pub badPrice : ℕ
+badPrice = 8
+
+-- an amount unfit
+abbrev pub unfitAmount : ℕ
+unfitAmount = 13

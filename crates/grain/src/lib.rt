@@ -1,0 +1,31 @@
+// The arithmetic of CBOT daily price limits: products, ticks, amounts, dates, spot and the judgement of a price.
+// It knows no book. Every function that is exported here is total: it has no `requires`, and answers every u32.
+mod amounts;
+mod check;
+mod dates;
+mod margin;
+mod prices;
+mod products;
+pub mod refusals;
+mod spot;
+
+pub use amounts::expanded;
+pub use amounts::is_fit_amount;
+pub use amounts::is_fit_founding;
+pub use check::Verdict;
+pub use check::judge;
+pub use dates::is_date;
+pub use dates::month_length;
+pub use margin::Calendar;
+pub use margin::ExpandedLimit;
+pub use margin::SeasonLimits;
+pub use margin::calendar_of;
+pub use margin::expanded_limit;
+pub use margin::season_limits;
+pub use prices::is_price;
+pub use prices::is_settlement;
+pub use products::first_contracts;
+pub use products::is_offered;
+pub use products::is_product;
+pub use products::is_traded;
+pub use spot::is_spot;

@@ -1,0 +1,90 @@
+// The product table. Each column is a constant array that one function reads; no other function touches it.
+// What is not exported by lib.rt asks for a product below 8.
+ghost use mathlib.Core.Path.{_≡_};
+ghost use Prim.Native.Nat.{_<_};
+ghost use Rattle.grain.specs.Products.{isProduct, stepOf, floorOf, firstOf, tickOf, isOffered, isTraded};
+
+const STEPS: [u32; 8] = [40, 40, 50, 50, 40, 40, 40, 10];
+
+const FLOORS: [u32; 8] = [160, 400, 200, 200, 240, 240, 160, 100];
+
+const FIRSTS: [u32; 8] = [5, 7, 8, 8, 5, 5, 5, 6];
+
+const STANDARD_TICKS: [u32; 8] = [2, 2, 1, 1, 2, 2, 2, 1];
+
+// 0 where no mini is offered.
+const MINI_TICKS: [u32; 8] = [1, 1, 0, 0, 1, 0, 0, 0];
+
+// Months traded: bit 0 is January.
+const MONTHS: [u32; 8] = [
+    0b1001_0101_0100,
+    0b0101_1101_0101,
+    0b1011_1101_0101,
+    0b1011_1101_0101,
+    0b1001_0101_0100,
+    0b1001_0101_0100,
+    0b1001_0101_0100,
+    0b0101_0101_0101,
+];
+
+pub fn is_product(product: u32) -> bool
+    ensures { λ r. ⌜ r ≡ isProduct product ⌝ }
+{
+    product < 8
+}
+
+pub fn step(product: u32) -> u32
+    requires { ⌜ product < 8 ⌝ }
+    ensures { λ r. ⌜ r ≡ stepOf product ⌝ }
+{
+    STEPS[product as usize]
+}
+
+pub fn floor(product: u32) -> u32
+    requires { ⌜ product < 8 ⌝ }
+    ensures { λ r. ⌜ r ≡ floorOf product ⌝ }
+{
+    FLOORS[product as usize]
+}
+
+// N, how many of the first listed non-spot contracts can trigger; 0 where there is no such product.
+pub fn first_contracts(product: u32) -> u32
+    ensures { λ r. ⌜ r ≡ firstOf product ⌝ }
+{
+    if 8 <= product {
+        return 0;
+    }
+    FIRSTS[product as usize]
+}
+
+// The tick of a size, 0 standard and 1 mini; 0 where the product or the size is not offered.
+pub fn tick(product: u32, size: u32) -> u32
+    ensures { λ r. ⌜ r ≡ tickOf product size ⌝ }
+{
+    if 8 <= product {
+        return 0;
+    }
+    if size == 0 {
+        return STANDARD_TICKS[product as usize];
+    }
+    if size == 1 {
+        return MINI_TICKS[product as usize];
+    }
+    0
+}
+
+pub fn is_offered(product: u32, size: u32) -> bool
+    ensures { λ r. ⌜ r ≡ isOffered product size ⌝ }
+{
+    tick(product, size) != 0
+}
+
+// Whether the product trades in the calendar month of a contract month.
+pub fn is_traded(product: u32, month: u32) -> bool
+    ensures { λ r. ⌜ r ≡ isTraded product month ⌝ }
+{
+    if 8 <= product {
+        return false;
+    }
+    (MONTHS[product as usize] >> (month % 12)) % 2 == 1
+}

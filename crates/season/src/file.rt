@@ -1,0 +1,112 @@
+// The season file: its line's numbers, for any bytes.
+ghost use mathlib.Core.Path.{_≡_};
+ghost use Prim.Native.Nat.{_+_, _*_, _<_, _≤_};
+ghost use lib.ListN.{length};
+ghost use Rattle.grain.specs.Lists.{every};
+ghost use Rattle.season.specs.SeasonFile.{wordAt, wordsFrom, isMisshapen, isDateWord, isAscending, seasonLine};
+use grain::SeasonLimits;
+use grain::refusals::BAD_PRICE;
+use grain::refusals::MISSHAPEN;
+use grain::refusals::NO_SUCH_DATE;
+use grain::refusals::NO_SUCH_PRODUCT;
+
+pub enum Line {
+    Limits {
+        product: u32,
+        initial: u32,
+        expanded: u32,
+    },
+    Refused(u32),
+}
+
+// Word k of the file, little-endian.
+fn word(file: &[u8], k: usize) -> u32
+    requires { ⌜ 4 * k + 3 < length (now file) ⌝ }
+    ensures { λ r. ⌜ r ≡ wordAt (now (file .entry)) k ⌝ }
+{
+    let at = 4 * k;
+    let low = file[at] as u32 + 256 * (file[at + 1] as u32);
+    low + 65536 * (file[at + 2] as u32) + 16777216 * (file[at + 3] as u32)
+}
+
+fn is_misshapen(file: &[u8]) -> bool
+    ensures { λ r. ⌜ r ≡ isMisshapen (now (file .entry)) ⌝ }
+{
+    if file.len() < 8 {
+        return true;
+    }
+    let count = word(file, 1);
+    if file.len() != 8 + 8 * (count as usize) {
+        return true;
+    }
+    count != 45
+}
+
+// The 45 words from word `from` on.
+fn words(file: &[u8], from: usize) -> [u32; 45]
+    requires { ⌜ 4 * (from + 45) ≤ length (now file) ⌝ }
+    ensures { λ r. ⌜ r ≡ wordsFrom (now (file .entry)) from 45 ⌝ }
+{
+    let mut out = [0u32; 45];
+    let mut i = 0;
+    while i < 45 {
+        out[i] = word(file, from + i);
+        i += 1;
+    }
+    out
+}
+
+fn are_dates(words: &[u32]) -> bool
+    ensures { λ r. ⌜ r ≡ every isDateWord (now (words .entry)) ⌝ }
+{
+    let mut i = 0;
+    while i < words.len() {
+        let w = words[i];
+        if !grain::is_date(w / 10000, w / 100 % 100, w % 100) {
+            return false;
+        }
+        i += 1;
+    }
+    true
+}
+
+fn is_ascending(words: &[u32]) -> bool
+    ensures { λ r. ⌜ r ≡ isAscending (now (words .entry)) ⌝ }
+{
+    let mut i = 1;
+    while i < words.len() {
+        if words[i] <= words[i - 1] {
+            return false;
+        }
+        i += 1;
+    }
+    true
+}
+
+pub fn line_of(file: &[u8]) -> Line
+    ensures { λ r. ⌜ r ≡ seasonLine (now (file .entry)) ⌝ }
+{
+    if is_misshapen(file) {
+        return Line::Refused(MISSHAPEN);
+    }
+    let product = word(file, 0);
+    if !grain::is_product(product) {
+        return Line::Refused(NO_SUCH_PRODUCT);
+    }
+    let dates = words(file, 2);
+    if !are_dates(&dates) {
+        return Line::Refused(NO_SUCH_DATE);
+    }
+    if !is_ascending(&dates) {
+        return Line::Refused(NO_SUCH_DATE);
+    }
+    let settlements = words(file, 47);
+    let SeasonLimits::Are { initial, expanded } = grain::season_limits(product, &settlements) else {
+        return Line::Refused(BAD_PRICE);
+    };
+    Line::Limits {
+        product,
+        initial,
+        expanded,
+    }
+}
