@@ -7,8 +7,10 @@ use lib.ListN.{length, getD}
 use Rattle.grain.specs.Lists.{every}
 use Rattle.grain.specs.Products.{isProduct}
 use Rattle.grain.specs.Prices.{isSettlement}
-use Rattle.grain.specs.Amounts.{expandedOf, seasonOf}
 use Rattle.grain.specs.Dates.{isDate}
+use Rattle.grain.specs.Amounts.{expandedOf, seasonOf}
+use Rattle.grain.specs.declared.margin.SeasonLimits.{SeasonLimits}
+use Rattle.grain.specs.declared.margin.SeasonLimits.the-variants.{Are, NoSuchProduct, NotFortyFive, BadSettlement}
 use Rattle.grain.specs.Refusals.{misshapen, noSuchProduct, noSuchDate, badPrice}
 use Rattle.season.specs.declared.file.Line.{Line}
 use Rattle.season.specs.declared.file.Line.the-variants.{Limits, Refused}
@@ -51,7 +53,14 @@ isAscending [] = true
 isAscending (w ∷ []) = true
 isAscending (v ∷ w ∷ ws) = ltb v w && isAscending (w ∷ ws)
 
--- the line's numbers, for any bytes
+-- the line of what the margin group's call answers, case by case
+abbrev pub limitsLine : ℕ → SeasonLimits → Line
+limitsLine product (Are initial expanded) = Limits product initial expanded
+limitsLine product NoSuchProduct = Refused noSuchProduct
+limitsLine product NotFortyFive = Refused misshapen
+limitsLine product BadSettlement = Refused badPrice
+
+-- the line's numbers, for any bytes: the refusals in their order, then the limits
 unfoldable pub seasonLine : List ℕ → Line
 seasonLine file =
     cond (isMisshapen file) (Refused misshapen)

@@ -1,9 +1,9 @@
 // The season file: its line's numbers, for any bytes.
 ghost use mathlib.Core.Path.{_≡_};
 ghost use Prim.Native.Nat.{_+_, _*_, _<_, _≤_};
-ghost use lib.ListN.{length};
+ghost use lib.ListN.{length, getD};
 ghost use Rattle.grain.specs.Lists.{every};
-ghost use Rattle.season.specs.SeasonFile.{wordAt, wordsFrom, isMisshapen, isDateWord, isAscending, seasonLine};
+ghost use Rattle.season.specs.SeasonFile.{wordAt, wordsFrom, isMisshapen, isDateWord, isAscending, limitsLine, seasonLine};
 use grain::SeasonLimits;
 use grain::refusals::BAD_PRICE;
 use grain::refusals::MISSHAPEN;
@@ -19,14 +19,24 @@ pub enum Line {
     Refused(u32),
 }
 
+fn byte(file: &[u8], at: usize) -> u32
+    requires { ⌜ at < length (now file) ⌝ }
+    ensures { λ r. ⌜ (r ≡ getD (now (file .entry)) at 0) × (r < 256) ⌝ }
+{
+    file[at] as u32
+}
+
 // Word k of the file, little-endian.
 fn word(file: &[u8], k: usize) -> u32
     requires { ⌜ 4 * k + 3 < length (now file) ⌝ }
     ensures { λ r. ⌜ r ≡ wordAt (now (file .entry)) k ⌝ }
 {
     let at = 4 * k;
-    let low = file[at] as u32 + 256 * (file[at + 1] as u32);
-    low + 65536 * (file[at + 2] as u32) + 16777216 * (file[at + 3] as u32)
+    let b0 = byte(file, at);
+    let b1 = byte(file, at + 1);
+    let b2 = byte(file, at + 2);
+    let b3 = byte(file, at + 3);
+    b0 + 256 * b1 + 65536 * b2 + 16777216 * b3
 }
 
 fn is_misshapen(file: &[u8]) -> bool
@@ -73,14 +83,29 @@ fn are_dates(words: &[u32]) -> bool
 fn is_ascending(words: &[u32]) -> bool
     ensures { λ r. ⌜ r ≡ isAscending (now (words .entry)) ⌝ }
 {
-    let mut i = 1;
-    while i < words.len() {
-        if words[i] <= words[i - 1] {
+    let mut i = 0;
+    while i + 1 < words.len() {
+        if words[i + 1] <= words[i] {
             return false;
         }
         i += 1;
     }
     true
+}
+
+fn limits_line(product: u32, limits: SeasonLimits) -> Line
+    ensures { λ r. ⌜ r ≡ limitsLine product limits ⌝ }
+{
+    match limits {
+        SeasonLimits::Are { initial, expanded } => Line::Limits {
+            product,
+            initial,
+            expanded,
+        },
+        SeasonLimits::NoSuchProduct => Line::Refused(NO_SUCH_PRODUCT),
+        SeasonLimits::NotFortyFive => Line::Refused(MISSHAPEN),
+        SeasonLimits::BadSettlement => Line::Refused(BAD_PRICE),
+    }
 }
 
 pub fn line_of(file: &[u8]) -> Line
@@ -101,12 +126,5 @@ pub fn line_of(file: &[u8]) -> Line
         return Line::Refused(NO_SUCH_DATE);
     }
     let settlements = words(file, 47);
-    let SeasonLimits::Are { initial, expanded } = grain::season_limits(product, &settlements) else {
-        return Line::Refused(BAD_PRICE);
-    };
-    Line::Limits {
-        product,
-        initial,
-        expanded,
-    }
+    limits_line(product, grain::season_limits(product, &settlements))
 }

@@ -19,12 +19,12 @@ settled c = sym (c .before .is-settlement .ensures) ∙ not-false _ (c .if2 .lef
 
 priced : (c : tie.Else3)
     → let a = c .before .before .before .before .before .before .args in
-      isPrice (a .product) (a .size) (a .price) ≡ true
+    isPrice (a .product) (a .size) (a .price) ≡ true
 priced c = sym (c .before .is-price .ensures) ∙ not-false _ (c .if3 .left)
 
 fit : (c : tie.Else4)
     → let a = c .before .before .before .before .before .before .before .before .args in
-      isFitAmount (a .product) (a .amount) ≡ true
+    isFitAmount (a .product) (a .amount) ≡ true
 fit c = sym (c .before .is-fit-amount .ensures) ∙ not-false _ (c .if4 .left)
 
 is-offered-requires : tie.Need-is-offered-requires

@@ -1,0 +1,5 @@
+pub mod Words
+pub mod Ascending
+pub mod Shape
+pub mod Answers
+pub mod Reading
