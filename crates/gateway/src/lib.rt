@@ -23,13 +23,14 @@ fn bare_answer(
 ) -> BareAnswer
     ensures { λ r. ⌜ r ≡ bareAnswer product size settlement amount spot price ⌝ }
 {
-    if !grain::is_offered(product, size) {
+    let tick = grain::tick(product, size);
+    if tick == 0 {
         return BareAnswer::NoSuchProduct;
     }
     if !grain::is_settlement(product, settlement) {
         return BareAnswer::BadPrice;
     }
-    if !grain::is_price(product, size, price) {
+    if !grain::is_on_tick(tick, price) {
         return BareAnswer::BadPrice;
     }
     if !grain::is_fit_amount(product, amount) {

@@ -7,3 +7,4 @@ pub mod Sums
 pub mod ValidDates
 pub mod Verdicts
 pub mod Marked
+pub mod OnTick

@@ -3,9 +3,9 @@ use mathlib.Core.Path.{_≡_, refl}
 use mathlib.Core.Bool.{true, false}
 use lib.ListN.{replicate}
 use Rattle.grain.specs.Lists.{every, sum}
-use Rattle.grain.specs.Products.{steps, floors, standardTicks, tickOf, isOffered}
-use Rattle.grain.specs.Prices.{isPrice}
-use Rattle.grain.specs.Amounts.{expandedBy, seasonBy, expandedOf, isFit}
+use Rattle.grain.specs.Products.{steps, floors, standardTicks, tickOf}
+use Rattle.grain.specs.Prices.{isOnTick}
+use Rattle.grain.specs.Amounts.{expandedBy, seasonBy, expandedOf}
 use Rattle.grain.specs.Dates.{contractMonth, isLeap, monthLength, monthLengths, isDate}
 use Rattle.grain.specs.Spot.{isSpot}
 use Rattle.grain.specs.Margin.{seasonLimits}
@@ -28,7 +28,7 @@ pub record Marked : Type 0 where
   pub h₄ : isSpot (contractMonth 2024 7) (contractMonth 2024 6) 2 ≡ false
 
 pub marked : Marked
-unfolding every sum steps floors standardTicks tickOf isOffered isPrice expandedBy seasonBy contractMonth isLeap monthLength monthLengths isDate isSpot seasonLimits
+unfolding every sum steps floors standardTicks tickOf isOnTick expandedBy seasonBy contractMonth isLeap monthLength monthLengths isDate isSpot seasonLimits
 marked =
     record {
       a = refl;

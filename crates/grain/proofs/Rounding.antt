@@ -1,6 +1,6 @@
 -- Rounding to a step, shown once for all steps.
 use Prim.Native.Nat.{ℕ, _+_, _-_, _*_, _/_, _%_, _<_, _≤_}
-use mathlib.Core.Path.{_≡_, refl}
+use mathlib.Core.Path.{_≡_}
 use native.Mathlib.Nat.{mul-assoc, mul-div-le, mul-mod-right, mul-pos, lt-mul-div-succ, mul-add, mul-one, mul-comm, le-trans, le-mul-of-pos-right}
 use native.Mathlib.Omega.{arith}
 

@@ -68,7 +68,7 @@ firstOf p = getD firsts p 0
 unfoldable pub tickOf : ℕ → ℕ → ℕ
 tickOf p size = cond (eqb size 0) (getD standardTicks p 0) (cond (eqb size 1) (getD miniTicks p 0) 0)
 
-unfoldable pub isOffered : ℕ → ℕ → Bool
+abbrev pub isOffered : ℕ → ℕ → Bool
 isOffered p size = not (eqb (tickOf p size) 0)
 
 -- the product trades in the calendar month of a contract month, which is year × 12 + month − 1

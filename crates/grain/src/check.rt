@@ -15,13 +15,10 @@ pub fn judge(spot: bool, settlement: u32, limit: u32, price: u32) -> Verdict
     if spot {
         return Verdict::Free;
     }
-    if price < settlement {
-        if limit < settlement - price {
-            return Verdict::Below;
-        }
-        return Verdict::Within;
+    if (price as u64) + (limit as u64) < settlement as u64 {
+        return Verdict::Below;
     }
-    if limit < price - settlement {
+    if (settlement as u64) + (limit as u64) < price as u64 {
         return Verdict::Above;
     }
     Verdict::Within

@@ -2,21 +2,19 @@
 // What is not exported by lib.rt asks for a product below 8.
 ghost use mathlib.Core.Path.{_≡_};
 ghost use Prim.Native.Nat.{_<_};
-ghost use Rattle.grain.specs.Products.{isProduct, stepOf, floorOf, firstOf, tickOf, isOffered, isTraded};
+ghost use Rattle.grain.specs.Products.{isProduct, stepOf, floorOf, firstOf, tickOf, isTraded};
 
-const STEPS: [u32; 8] = [40, 40, 50, 50, 40, 40, 40, 10];
+const STEPS: [u8; 8] = [40, 40, 50, 50, 40, 40, 40, 10];
 
-const FLOORS: [u32; 8] = [160, 400, 200, 200, 240, 240, 160, 100];
+const FLOORS: [u16; 8] = [160, 400, 200, 200, 240, 240, 160, 100];
 
-const FIRSTS: [u32; 8] = [5, 7, 8, 8, 5, 5, 5, 6];
+const FIRSTS: [u8; 8] = [5, 7, 8, 8, 5, 5, 5, 6];
 
-const STANDARD_TICKS: [u32; 8] = [2, 2, 1, 1, 2, 2, 2, 1];
-
-// 0 where no mini is offered.
-const MINI_TICKS: [u32; 8] = [1, 1, 0, 0, 1, 0, 0, 0];
+// The standard ticks, then those of the minis; 0 where no mini is offered.
+const TICKS: [u8; 16] = [2, 2, 1, 1, 2, 2, 2, 1, 1, 1, 0, 0, 1, 0, 0, 0];
 
 // Months traded: bit 0 is January.
-const MONTHS: [u32; 8] = [
+const MONTHS: [u16; 8] = [
     0b1001_0101_0100,
     0b0101_1101_0101,
     0b1011_1101_0101,
@@ -37,14 +35,14 @@ pub fn step(product: u32) -> u32
     requires { ⌜ product < 8 ⌝ }
     ensures { λ r. ⌜ r ≡ stepOf product ⌝ }
 {
-    STEPS[product as usize]
+    STEPS[product as usize] as u32
 }
 
 pub fn floor(product: u32) -> u32
     requires { ⌜ product < 8 ⌝ }
     ensures { λ r. ⌜ r ≡ floorOf product ⌝ }
 {
-    FLOORS[product as usize]
+    FLOORS[product as usize] as u32
 }
 
 // N, how many of the first listed non-spot contracts can trigger; 0 where there is no such product.
@@ -54,7 +52,7 @@ pub fn first_contracts(product: u32) -> u32
     if 8 <= product {
         return 0;
     }
-    FIRSTS[product as usize]
+    FIRSTS[product as usize] as u32
 }
 
 // The tick of a size, 0 standard and 1 mini; 0 where the product or the size is not offered.
@@ -64,19 +62,10 @@ pub fn tick(product: u32, size: u32) -> u32
     if 8 <= product {
         return 0;
     }
-    if size == 0 {
-        return STANDARD_TICKS[product as usize];
+    if 1 < size {
+        return 0;
     }
-    if size == 1 {
-        return MINI_TICKS[product as usize];
-    }
-    0
-}
-
-pub fn is_offered(product: u32, size: u32) -> bool
-    ensures { λ r. ⌜ r ≡ isOffered product size ⌝ }
-{
-    tick(product, size) != 0
+    TICKS[(8 * size + product) as usize] as u32
 }
 
 // Whether the product trades in the calendar month of a contract month.

@@ -1,5 +1,5 @@
 -- The line's cases: what the margin group's call answers for a product and 45 settlements, as a line.
-use Prim.Native.Nat.{ℕ, _<_}
+use Prim.Native.Nat.{ℕ}
 use mathlib.Core.Path.{_≡_, refl}
 use mathlib.Core.Bool.{Bool, true, false, not, cond}
 use mathlib.Core.List.{List}

@@ -1,38 +1,42 @@
--- Each return follows from what the tests before it say; `offered` .. `fit` are those facts past each test.
+-- Each return follows from the tests before it: `offered`, `settled`, `priced` and `fit` are what is known past each.
 use mathlib.Core.Path.{_≡_, sym, _∙_}
-use mathlib.Core.Bool.{true}
+use mathlib.Core.Bool.{true, false}
+use lib.Dec.{eqb}
 use borrow.Author.Needs.{needs}
-use borrow.Author.Tests.{not-true, not-false}
-use Rattle.grain.specs.Products.{isOffered}
+use borrow.Author.Tests.{eq-eqb, ne-eqb, not-true, not-false}
+use Rattle.grain.specs.Products.{tickOf}
 use Rattle.grain.specs.Prices.{isPrice, isSettlement}
 use Rattle.grain.specs.Amounts.{isFitAmount}
 use Rattle.gateway.specs.Bare.{bareAnswer}
 use Rattle.gateway.proofs.bare_answer.Statement.{statement}
 use Rattle.gateway.proofs.bare_answer.Tie as tie
 
-offered : (c : tie.Else1) → isOffered (c .before .before .args .product) (c .before .before .args .size) ≡ true
-offered c = sym (c .before .is-offered .ensures) ∙ not-false _ (c .if1 .left)
+offered : (c : tie.Else1) → eqb (tickOf (c .before .before .args .product) (c .before .before .args .size)) 0 ≡ false
+offered c = ne-eqb _ _ (λ e. c .if1 .left (c .before .tick .ensures ∙ e))
 
 settled : (c : tie.Else2)
-    → isSettlement (c .before .before .before .before .args .product) (c .before .before .before .before .args .settlement) ≡ true
+    → let a = c .before .before .before .before .args in
+    isSettlement (a .product) (a .settlement) ≡ true
 settled c = sym (c .before .is-settlement .ensures) ∙ not-false _ (c .if2 .left)
 
 priced : (c : tie.Else3)
     → let a = c .before .before .before .before .before .before .args in
     isPrice (a .product) (a .size) (a .price) ≡ true
-priced c = sym (c .before .is-price .ensures) ∙ not-false _ (c .if3 .left)
+priced c =
+    rw (c .before .before .before .before .before .tick .ensures)
+    at (sym (c .before .is-on-tick .ensures) ∙ not-false _ (c .if3 .left))
 
 fit : (c : tie.Else4)
     → let a = c .before .before .before .before .before .before .before .before .args in
     isFitAmount (a .product) (a .amount) ≡ true
 fit c = sym (c .before .is-fit-amount .ensures) ∙ not-false _ (c .if4 .left)
 
-is-offered-requires : tie.Need-is-offered-requires
-is-offered-requires c κs = search needs
+tick-requires : tie.Need-tick-requires
+tick-requires c κs = search needs
 
 returns : tie.Need-returns
 unfolding bareAnswer
-returns c = simp (sym (c .before .is-offered .ensures) ∙ not-true _ (c .if1 .taken))
+returns c = simp (eq-eqb _ _ (sym (c .before .tick .ensures) ∙ c .if1 .taken))
 
 is-settlement-requires : tie.Need-is-settlement-requires
 is-settlement-requires c κs = search needs
@@ -42,14 +46,16 @@ unfolding bareAnswer
 returns-2 c =
     simp (offered (c .before .before), sym (c .before .is-settlement .ensures) ∙ not-true _ (c .if2 .taken))
 
-is-price-requires : tie.Need-is-price-requires
-is-price-requires c κs = search needs
+is-on-tick-requires : tie.Need-is-on-tick-requires
+is-on-tick-requires c κs = search needs
 
 returns-3 : tie.Need-returns-3
 unfolding bareAnswer
 returns-3 c =
-    simp
-    (offered (c .before .before .before .before), settled (c .before .before), sym (c .before .is-price .ensures) ∙ not-true _ (c .if3 .taken))
+    let k = c .before .before in
+    let off =
+    rw (k .before .before .before .tick .ensures) at (sym (c .before .is-on-tick .ensures) ∙ not-true _ (c .if3 .taken)) in
+    simp (offered (k .before .before), settled k, off)
 
 is-fit-amount-requires : tie.Need-is-fit-amount-requires
 is-fit-amount-requires c κs = search needs
@@ -75,11 +81,11 @@ pub bare-answer-spec : {M : Type 1} → statement M
 bare-answer-spec =
     tie.close
     (tie.spec
-    is-offered-requires
+    tick-requires
     returns
     is-settlement-requires
     returns-2
-    is-price-requires
+    is-on-tick-requires
     returns-3
     is-fit-amount-requires
     returns-4

@@ -1,13 +1,8 @@
 use borrow.Author.Needs.{needs}
-use native.Mathlib.Omega.{arith}
 use mathlib.Core.Path.{ap, _∙_}
 use Rattle.gateway.specs.Bare.{answerNumber, bareCheck}
 use Rattle.gateway.proofs.botskhela_bare_check.Statement.{statement}
 use Rattle.gateway.proofs.botskhela_bare_check.Tie as tie
-use Rattle.gateway.proofs.botskhela_bare_check.Reads as reads
-use Rattle.gateway.proofs.botskhela_bare_check.Lts as lts
-use Rattle.gateway.proofs.answer_number.Reads as answer-number-reads
-use Rattle.gateway.proofs.bare_answer.Reads as bare-answer-reads
 
 bare-answer-requires : tie.Need-bare-answer-requires
 bare-answer-requires c κs = search needs

@@ -1,16 +1,11 @@
 use borrow.Author.Needs.{needs}
 use native.Mathlib.Omega.{arith}
-use Prim.Native.Nat.{_<_}
 use mathlib.Core.Path.{sym, _∙_}
 use native.Mathlib.Nat.{min-eq-left, min-eq-right, le-of-lt}
 use Rattle.grain.specs.Amounts.{expandedBy}
 use Rattle.grain.proofs.Columns.{step-positive, step-small, expanded-beyond}
 use Rattle.grain.proofs.amounts.expanded.Statement.{statement}
 use Rattle.grain.proofs.amounts.expanded.Tie as tie
-use Rattle.grain.proofs.amounts.expanded.Reads as reads
-use Rattle.grain.proofs.amounts.expanded.Lts as lts
-use Rattle.grain.proofs.amounts.whole_steps.Reads as whole-steps-reads
-use Rattle.grain.proofs.products.step.Reads as step-reads
 
 returns : tie.Need-returns
 returns c = sym (expanded-beyond (c .before .args .product) (c .before .args .initial) (c .if1 .taken))

@@ -1,15 +1,9 @@
 use borrow.Author.Needs.{needs}
-use native.Mathlib.Omega.{arith}
-use mathlib.Core.Path.{sym, _∙_}
 use borrow.Author.Tests.{lt-ltb, le-ltb, lt-leb, le-leb}
 use Rattle.grain.specs.Amounts.{isFit}
 use Rattle.grain.proofs.Columns.{step-positive}
 use Rattle.grain.proofs.amounts.is_fit.Statement.{statement}
 use Rattle.grain.proofs.amounts.is_fit.Tie as tie
-use Rattle.grain.proofs.amounts.is_fit.Reads as reads
-use Rattle.grain.proofs.amounts.is_fit.Lts as lts
-use Rattle.grain.proofs.products.floor.Reads as floor-reads
-use Rattle.grain.proofs.products.step.Reads as step-reads
 
 returns : tie.Need-returns
 unfolding isFit

@@ -1,6 +1,6 @@
 use borrow.Author.Needs.{needs}
 use native.Mathlib.Omega.{arith}
-use mathlib.Core.Path.{sym, _∙_}
+use mathlib.Core.Path.{sym}
 use Prim.Native.Nat.{_+_, _*_, _<_}
 use lib.Dec.{lit<}
 use native.Mathlib.Nat.{max-eq-left, max-eq-right, le-of-lt}
@@ -9,11 +9,6 @@ use Rattle.grain.proofs.Columns.{step-positive, step-small}
 use Rattle.grain.proofs.Rounding.{whole-steps}
 use Rattle.grain.proofs.amounts.season_initial.Statement.{statement}
 use Rattle.grain.proofs.amounts.season_initial.Tie as tie
-use Rattle.grain.proofs.amounts.season_initial.Reads as reads
-use Rattle.grain.proofs.amounts.season_initial.Lts as lts
-use Rattle.grain.proofs.amounts.whole_steps.Reads as whole-steps-reads
-use Rattle.grain.proofs.products.floor.Reads as floor-reads
-use Rattle.grain.proofs.products.step.Reads as step-reads
 
 step-requires : tie.Need-step-requires
 step-requires c κs = search needs

@@ -1,13 +1,9 @@
 use borrow.Author.Needs.{needs}
-use native.Mathlib.Omega.{arith}
-use Prim.Native.Nat.{_≤_}
 use native.Mathlib.Nat.{mul-le-mul, mul-pos, le-of-lt, lt-of-le-of-lt}
 use lib.Dec.{lit<}
 use Rattle.grain.proofs.Rounding.{whole-steps-small}
 use Rattle.grain.proofs.amounts.whole_steps.Statement.{statement}
 use Rattle.grain.proofs.amounts.whole_steps.Tie as tie
-use Rattle.grain.proofs.amounts.whole_steps.Reads as reads
-use Rattle.grain.proofs.amounts.whole_steps.Lts as lts
 
 mul-result : tie.Need-mul-result
 mul-result c = record { fits = lt-of-le-of-lt (mul-le-mul (c .pre .1) (le-of-lt (c .pre .3))) (lit< tt) }

@@ -1,12 +1,8 @@
 use borrow.Author.Needs.{needs}
-use native.Mathlib.Omega.{arith}
 use borrow.Author.Tests.{lt-leb, le-leb}
 use Rattle.grain.specs.Dates.{isDate}
 use Rattle.grain.proofs.dates.is_date.Statement.{statement}
 use Rattle.grain.proofs.dates.is_date.Tie as tie
-use Rattle.grain.proofs.dates.is_date.Reads as reads
-use Rattle.grain.proofs.dates.is_date.Lts as lts
-use Rattle.grain.proofs.dates.month_length.Reads as month-length-reads
 
 returns : tie.Need-returns
 unfolding isDate

@@ -1,11 +1,7 @@
-use borrow.Author.Needs.{needs}
-use native.Mathlib.Omega.{arith}
 use borrow.Author.Tests.{eq-eqb, ne-eqb}
 use Rattle.grain.specs.Dates.{isLeap}
 use Rattle.grain.proofs.dates.is_leap.Statement.{statement}
 use Rattle.grain.proofs.dates.is_leap.Tie as tie
-use Rattle.grain.proofs.dates.is_leap.Reads as reads
-use Rattle.grain.proofs.dates.is_leap.Lts as lts
 
 returns : tie.Need-returns
 unfolding isLeap

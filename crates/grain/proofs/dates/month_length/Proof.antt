@@ -6,9 +6,6 @@ use lib.ListN.{List·getD-eq-default}
 use Rattle.grain.specs.Dates.{monthLengths, monthLength}
 use Rattle.grain.proofs.dates.month_length.Statement.{statement}
 use Rattle.grain.proofs.dates.month_length.Tie as tie
-use Rattle.grain.proofs.dates.month_length.Reads as reads
-use Rattle.grain.proofs.dates.month_length.Lts as lts
-use Rattle.grain.proofs.dates.is_leap.Reads as is-leap-reads
 
 returns : tie.Need-returns
 unfolding monthLength monthLengths

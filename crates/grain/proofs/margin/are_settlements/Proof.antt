@@ -1,5 +1,4 @@
 use borrow.Author.Needs.{needs}
-use native.Mathlib.Omega.{arith}
 use Prim.Native.Nat.{_-_, _≤_}
 use mathlib.Core.Path.{_≡_, sym, _∙_}
 use borrow.Author.Tests.{not-true, not-false}
@@ -9,9 +8,6 @@ use Rattle.grain.specs.Lists.{every}
 use Rattle.grain.specs.Prices.{isSettlement}
 use Rattle.grain.proofs.margin.are_settlements.Statement.{statement}
 use Rattle.grain.proofs.margin.are_settlements.Tie as tie
-use Rattle.grain.proofs.margin.are_settlements.Reads as reads
-use Rattle.grain.proofs.margin.are_settlements.Lts as lts
-use Rattle.grain.proofs.prices.is_settlement.Reads as is-settlement-reads
 
 abbrev Inv-loop : tie.InvT-loop
 Inv-loop product settlements i₀ i =

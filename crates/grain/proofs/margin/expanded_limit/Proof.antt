@@ -1,14 +1,9 @@
 use borrow.Author.Needs.{needs}
-use native.Mathlib.Omega.{arith}
 use mathlib.Core.Path.{sym, _∙_}
 use borrow.Author.Tests.{lt-ltb, le-ltb, not-true, not-false}
 use Rattle.grain.specs.Margin.{expandedLimit}
 use Rattle.grain.proofs.margin.expanded_limit.Statement.{statement}
 use Rattle.grain.proofs.margin.expanded_limit.Tie as tie
-use Rattle.grain.proofs.margin.expanded_limit.Reads as reads
-use Rattle.grain.proofs.margin.expanded_limit.Lts as lts
-use Rattle.grain.proofs.amounts.expanded.Reads as expanded-reads
-use Rattle.grain.proofs.amounts.is_fit_amount.Reads as is-fit-amount-reads
 
 returns : tie.Need-returns
 unfolding expandedLimit

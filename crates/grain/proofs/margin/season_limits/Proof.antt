@@ -1,17 +1,11 @@
 use borrow.Author.Needs.{needs}
 use native.Mathlib.Omega.{arith}
-use mathlib.Core.Path.{_≡_, sym, _∙_}
+use mathlib.Core.Path.{sym, _∙_}
 use borrow.Author.Tests.{lt-ltb, le-ltb, eq-eqb, ne-eqb, not-true, not-false}
 use Rattle.grain.specs.Margin.{seasonLimits}
 use Rattle.grain.proofs.Sums.{sum-small}
 use Rattle.grain.proofs.margin.season_limits.Statement.{statement}
 use Rattle.grain.proofs.margin.season_limits.Tie as tie
-use Rattle.grain.proofs.margin.season_limits.Reads as reads
-use Rattle.grain.proofs.margin.season_limits.Lts as lts
-use Rattle.grain.proofs.amounts.expanded.Reads as expanded-reads
-use Rattle.grain.proofs.amounts.season_initial.Reads as season-initial-reads
-use Rattle.grain.proofs.margin.are_settlements.Reads as are-settlements-reads
-use Rattle.grain.proofs.margin.sum_of.Reads as sum-of-reads
 
 returns : tie.Need-returns
 unfolding seasonLimits

@@ -1,15 +1,13 @@
 use borrow.Author.Needs.{needs}
 use native.Mathlib.Omega.{arith}
 use Prim.Native.Nat.{_+_, _-_, _≤_}
-use mathlib.Core.Path.{_≡_, sym, _∙_}
+use mathlib.Core.Path.{_≡_}
 use native.Mathlib.Nat.{zero-add}
 use lib.ListN.{length, drop}
 use Rattle.grain.proofs.Scans.{sum-next, sum-end}
 use Rattle.grain.specs.Lists.{sum}
 use Rattle.grain.proofs.margin.sum_of.Statement.{statement}
 use Rattle.grain.proofs.margin.sum_of.Tie as tie
-use Rattle.grain.proofs.margin.sum_of.Reads as reads
-use Rattle.grain.proofs.margin.sum_of.Lts as lts
 
 abbrev Inv-loop : tie.InvT-loop
 Inv-loop settlements total₀ i₀ total i = (i ≤ length settlements) × (total + sum (drop i settlements) ≡ sum settlements)

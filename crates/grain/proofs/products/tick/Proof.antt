@@ -1,50 +1,51 @@
 use borrow.Author.Needs.{needs}
 use native.Mathlib.Omega.{arith}
+use Prim.Native.Nat.{_+_, _*_}
 use mathlib.Core.Path.{refl, sym}
-use borrow.Author.Tests.{eq-eqb, ne-eqb}
-use Rattle.grain.specs.Products.{tickOf, standardTicks, miniTicks}
-use Rattle.grain.proofs.Columns.{tick-beyond}
+use borrow.Author.Tests.{ne-eqb}
+use Rattle.grain.specs.Products.{tickOf}
+use Rattle.grain.proofs.Columns.{ticks, tick-beyond, tick-in, column-fits}
 use Rattle.grain.proofs.products.tick.Statement.{statement}
 use Rattle.grain.proofs.products.tick.Tie as tie
-use Rattle.grain.proofs.products.tick.Reads as reads
-use Rattle.grain.proofs.products.tick.Lts as lts
 
 returns : tie.Need-returns
 returns c = sym (tick-beyond (c .before .args .product) (c .before .args .size) (c .if1 .taken))
 
+returns-2 : tie.Need-returns-2
+unfolding tickOf
+returns-2 c =
+    let size = c .before .before .args .size in
+    simp (ne-eqb size 0 (λ e. omega arith), ne-eqb size 1 (λ e. omega arith))
+
 mul-result : tie.Need-mul-result
 mul-result c = search needs
+
+add-result : tie.Need-add-result
+add-result c = search needs
+
+cast-result : tie.Need-cast-result
+cast-result c = search needs
 
 array-read-result : tie.Need-array-read-result
 array-read-result c = search needs
 
-returns-2 : tie.Need-returns-2
-unfolding tickOf standardTicks
-returns-2 c = simp (eq-eqb _ _ (c .if2 .taken))
-
-mul-result-2 : tie.Need-mul-result-2
-mul-result-2 c = search needs
-
-array-read-result-2 : tie.Need-array-read-result-2
-array-read-result-2 c = search needs
+cast-result-2 : tie.Need-cast-result-2
+cast-result-2 c =
+    let a = c .before .before .args in
+    column-fits ticks 16 refl (8 * a .size + a .product) (omega arith)
 
 returns-3 : tie.Need-returns-3
-unfolding tickOf miniTicks
-returns-3 c = simp (ne-eqb _ _ (c .before .if2 .left), eq-eqb _ _ (c .if3 .taken))
-
-returns-4 : tie.Need-returns-4
-unfolding tickOf
-returns-4 c = simp (ne-eqb _ _ (c .before .if2 .left), ne-eqb _ _ (c .if3 .left))
+returns-3 c = tick-in (c .before .before .args .product) (c .before .before .args .size) (c .before .if1 .left) (omega arith)
 
 pub tick-spec : {M : Type 1} → statement M
 tick-spec =
     tie.close
     (tie.spec
     returns
-    mul-result
-    array-read-result
     returns-2
-    mul-result-2
-    array-read-result-2
-    returns-3
-    returns-4)
+    mul-result
+    add-result
+    cast-result
+    array-read-result
+    cast-result-2
+    returns-3)

@@ -3,8 +3,6 @@ use borrow.Author.Tests.{lt-leb, le-leb, eq-eqb, ne-eqb}
 use Rattle.grain.specs.Spot.{isSpot}
 use Rattle.grain.proofs.spot.is_spot.Statement.{statement}
 use Rattle.grain.proofs.spot.is_spot.Tie as tie
-use Rattle.grain.proofs.spot.is_spot.Reads as reads
-use Rattle.grain.proofs.spot.is_spot.Lts as lts
 
 returns : tie.Need-returns
 unfolding isSpot

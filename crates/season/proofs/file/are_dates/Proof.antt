@@ -1,5 +1,4 @@
 use borrow.Author.Needs.{needs}
-use native.Mathlib.Omega.{arith}
 use Prim.Native.Nat.{_-_, _≤_}
 use mathlib.Core.Path.{_≡_, sym, _∙_}
 use borrow.Author.Tests.{not-true, not-false}
@@ -9,9 +8,6 @@ use Rattle.grain.proofs.Scans.{every-next, every-end}
 use Rattle.season.specs.SeasonFile.{isDateWord}
 use Rattle.season.proofs.file.are_dates.Statement.{statement}
 use Rattle.season.proofs.file.are_dates.Tie as tie
-use Rattle.season.proofs.file.are_dates.Reads as reads
-use Rattle.season.proofs.file.are_dates.Lts as lts
-use Rattle.grain.proofs.is_date.Reads as is-date-reads
 
 abbrev Inv-loop : tie.InvT-loop
 Inv-loop words i₀ i = (i ≤ length words) × (every isDateWord words ≡ every isDateWord (drop i words))

@@ -3,8 +3,6 @@ use native.Mathlib.Omega.{arith}
 use mathlib.Core.Path.{refl}
 use Rattle.season.proofs.file.byte.Statement.{statement}
 use Rattle.season.proofs.file.byte.Tie as tie
-use Rattle.season.proofs.file.byte.Reads as reads
-use Rattle.season.proofs.file.byte.Lts as lts
 
 shared-slice-read-result : tie.Need-shared-slice-read-result
 shared-slice-read-result c = search needs

@@ -1,5 +1,4 @@
 use borrow.Author.Needs.{needs}
-use native.Mathlib.Omega.{arith}
 use Prim.Native.Nat.{_-_, _≤_}
 use mathlib.Core.Path.{_≡_, sym, _∙_}
 use borrow.Author.Tests.{lt-ltb, le-ltb}
@@ -8,8 +7,6 @@ use Rattle.season.specs.SeasonFile.{isAscending}
 use Rattle.season.proofs.Ascending.{ascending-next, ascending-end}
 use Rattle.season.proofs.file.is_ascending.Statement.{statement}
 use Rattle.season.proofs.file.is_ascending.Tie as tie
-use Rattle.season.proofs.file.is_ascending.Reads as reads
-use Rattle.season.proofs.file.is_ascending.Lts as lts
 
 abbrev Inv-loop : tie.InvT-loop
 Inv-loop words i₀ i = (i ≤ length words) × (isAscending words ≡ isAscending (drop i words))

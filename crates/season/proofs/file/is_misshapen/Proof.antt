@@ -1,12 +1,8 @@
 use borrow.Author.Needs.{needs}
-use native.Mathlib.Omega.{arith}
 use borrow.Author.Tests.{lt-ltb, le-ltb, eq-eqb, ne-eqb}
 use Rattle.season.specs.SeasonFile.{isMisshapen}
 use Rattle.season.proofs.file.is_misshapen.Statement.{statement}
 use Rattle.season.proofs.file.is_misshapen.Tie as tie
-use Rattle.season.proofs.file.is_misshapen.Reads as reads
-use Rattle.season.proofs.file.is_misshapen.Lts as lts
-use Rattle.season.proofs.file.word.Reads as word-reads
 
 returns : tie.Need-returns
 unfolding isMisshapen

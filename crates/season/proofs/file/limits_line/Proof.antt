@@ -1,9 +1,6 @@
 use borrow.Author.Needs.{needs}
-use native.Mathlib.Omega.{arith}
 use Rattle.season.proofs.file.limits_line.Statement.{statement}
 use Rattle.season.proofs.file.limits_line.Tie as tie
-use Rattle.season.proofs.file.limits_line.Reads as reads
-use Rattle.season.proofs.file.limits_line.Lts as lts
 
 enum-known-limits : tie.Need-enum-known-limits
 enum-known-limits c = search needs

@@ -1,5 +1,4 @@
 -- Each return follows from the tests before it: `whole`, `sold`, `dated` and `rising` are what is known past each.
-use Prim.Native.Nat.{_<_, _≤_}
 use mathlib.Core.Path.{_≡_, sym, _∙_}
 use mathlib.Core.Bool.{true, false}
 use native.Mathlib.Omega.{arith}

@@ -1,12 +1,7 @@
 use borrow.Author.Needs.{needs}
-use native.Mathlib.Omega.{arith}
 use Rattle.season.specs.SeasonFile.{wordAt}
-use mathlib.Core.Path.{refl}
 use Rattle.season.proofs.file.word.Statement.{statement}
 use Rattle.season.proofs.file.word.Tie as tie
-use Rattle.season.proofs.file.word.Reads as reads
-use Rattle.season.proofs.file.word.Lts as lts
-use Rattle.season.proofs.file.byte.Reads as byte-reads
 
 mul-at : tie.Need-mul-at
 mul-at c = search needs

@@ -6,9 +6,6 @@ use lib.ListN.{length, length-set}
 use Rattle.season.proofs.Words.{Filled, filled-none, filled-next, filled-all}
 use Rattle.season.proofs.file.words.Statement.{statement}
 use Rattle.season.proofs.file.words.Tie as tie
-use Rattle.season.proofs.file.words.Reads as reads
-use Rattle.season.proofs.file.words.Lts as lts
-use Rattle.season.proofs.file.word.Reads as word-reads
 
 abbrev Inv-loop : tie.InvT-loop
 Inv-loop file from out₀ i₀ out i = (i ≤ 45) × (length out ≡ 45) × Filled file from 45 out i

@@ -1,0 +1,46 @@
+#include "bare_in_c.h"
+
+#include "botskhela.h"
+
+#define PRODUCTS 8
+#define SIZES 2
+#define LARGEST_PRICE 1000000u
+#define LARGEST_AMOUNT 2000000u
+
+static const uint32_t STEP[PRODUCTS] = {40, 40, 50, 50, 40, 40, 40, 10};
+static const uint32_t FLOOR[PRODUCTS] = {160, 400, 200, 200, 240, 240, 160, 100};
+
+/* A tick of 0 stands for a size that is not offered. */
+static const uint32_t TICK[PRODUCTS][SIZES] = {
+    {2, 1}, {2, 1}, {1, 0}, {1, 0}, {2, 1}, {2, 0}, {2, 0}, {1, 0},
+};
+
+/* 0 wraps above the range. */
+static int is_price(uint32_t price, uint32_t tick)
+{
+    return price - 1 < LARGEST_PRICE && price % tick == 0;
+}
+
+static int is_amount(uint32_t product, uint32_t amount)
+{
+    return amount >= FLOOR[product] && amount <= LARGEST_AMOUNT && amount % STEP[product] == 0;
+}
+
+uint32_t bare_in_c(uint32_t product, uint32_t size, uint32_t settlement, uint32_t amount,
+                   uint32_t spot, uint32_t price)
+{
+    if (product >= PRODUCTS || size >= SIZES || TICK[product][size] == 0)
+        return BOTSKHELA_NO_SUCH_PRODUCT;
+    if (!is_price(settlement, TICK[product][BOTSKHELA_STANDARD]) ||
+        !is_price(price, TICK[product][size]))
+        return BOTSKHELA_BAD_PRICE;
+    if (!is_amount(product, amount))
+        return BOTSKHELA_UNFIT_AMOUNT;
+    if (spot != 0)
+        return BOTSKHELA_FREE;
+    if (price + amount < settlement)
+        return BOTSKHELA_BELOW;
+    if (price > settlement + amount)
+        return BOTSKHELA_ABOVE;
+    return BOTSKHELA_WITHIN;
+}

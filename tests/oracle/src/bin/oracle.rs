@@ -1,0 +1,50 @@
+//! The second implementation on the command line: `oracle season` and `oracle bare`.
+
+use std::io::{self, BufRead, Read, Write};
+use std::process::ExitCode;
+
+use oracle::bare::{self, Order};
+use oracle::season;
+
+const USAGE: &str = "usage: oracle season < FILE | oracle bare < LINES
+season  a season file on standard input; writes its line
+bare    lines PRODUCT SIZE SETTLEMENT AMOUNT SPOT PRICE; writes a number for each";
+
+fn main() -> ExitCode {
+    let command = std::env::args().nth(1).unwrap_or_default();
+    let outcome = match command.as_str() {
+        "season" => answer_season(),
+        "bare" => answer_bare(),
+        _ => Err(io::Error::other(USAGE)),
+    };
+    match outcome {
+        Ok(()) => ExitCode::SUCCESS,
+        Err(error) => {
+            eprintln!("{error}");
+            ExitCode::FAILURE
+        }
+    }
+}
+
+fn answer_season() -> io::Result<()> {
+    let mut file = Vec::new();
+    io::stdin().read_to_end(&mut file)?;
+    io::stdout().write_all(season::answer(&file).as_bytes())
+}
+
+fn answer_bare() -> io::Result<()> {
+    let mut output = io::BufWriter::new(io::stdout().lock());
+    for line in io::stdin().lock().lines() {
+        let line = line?;
+        let order =
+            order(&line).ok_or_else(|| io::Error::other(format!("not six numbers: {line}")))?;
+        writeln!(output, "{}", bare::number(&order))?;
+    }
+    output.flush()
+}
+
+fn order(line: &str) -> Option<Order> {
+    let words: Result<Vec<u32>, _> = line.split_whitespace().map(str::parse).collect();
+    let numbers: [u32; 6] = words.ok()?.try_into().ok()?;
+    Some(Order::from(numbers))
+}

@@ -1,0 +1,55 @@
+//! Runs the program under test on every stored case: `season_cases PROGRAM FOLDER`.
+
+use std::path::{Path, PathBuf};
+use std::process::ExitCode;
+use std::{env, fs, io};
+
+use oracle::testing::case::{self, Case};
+use oracle::testing::program::{Delivery, Program};
+use oracle::testing::score::Score;
+
+fn main() -> ExitCode {
+    let arguments: Vec<PathBuf> = env::args_os().skip(1).map(PathBuf::from).collect();
+    let [program, folder] = arguments.as_slice() else {
+        eprintln!("usage: season_cases PROGRAM FOLDER");
+        return ExitCode::FAILURE;
+    };
+    let mut program = Program::new(program);
+    let mut score = Score::showing(usize::MAX);
+    match case_files(folder) {
+        Ok(files) => files
+            .iter()
+            .for_each(|file| run(&mut program, file, &mut score)),
+        Err(error) => score.fail(&format!("{}: {error}", folder.display())),
+    }
+    score.finish()
+}
+
+/// The stored cases, by name.
+fn case_files(folder: &Path) -> io::Result<Vec<PathBuf>> {
+    let mut files = Vec::new();
+    for entry in fs::read_dir(folder)? {
+        let path = entry?.path();
+        if path.extension().is_some_and(|extension| extension == "txt") {
+            files.push(path);
+        }
+    }
+    files.sort();
+    Ok(files)
+}
+
+fn run(program: &mut Program, file: &Path, score: &mut Score) {
+    let name = file.file_stem().unwrap_or_default().to_string_lossy();
+    match load(file) {
+        Ok(case) => {
+            let output = program.output_of(&case.input, Delivery::Whole);
+            score.compare(&name, &case.expected, output);
+        }
+        Err(error) => score.fail(&format!("{name}: {error}")),
+    }
+}
+
+fn load(file: &Path) -> Result<Case, String> {
+    let text = fs::read_to_string(file).map_err(|error| error.to_string())?;
+    case::parse(&text)
+}

@@ -1,0 +1,12 @@
+//! A second implementation of docs/RULES.md, written from the rule alone.
+//!
+//! It shares no text with the proved code, so that the two can be compared.
+
+pub mod amounts;
+pub mod bare;
+pub mod dates;
+pub mod prices;
+pub mod products;
+pub mod refusal;
+pub mod season;
+pub mod testing;

@@ -1,0 +1,8 @@
+//! What the test programs share; no part of the rule.
+
+pub mod case;
+pub mod damage;
+pub mod draw;
+pub mod program;
+pub mod random;
+pub mod score;
