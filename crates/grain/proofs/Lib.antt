@@ -8,3 +8,4 @@ pub mod ValidDates
 pub mod Verdicts
 pub mod Marked
 pub mod OnTick
+pub mod Tests

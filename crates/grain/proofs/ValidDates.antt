@@ -5,7 +5,7 @@ use mathlib.Core.Bool.{true, _&&_}
 use lib.Dec.{leb}
 use borrow.Author.Tests.{leb-true}
 use Rattle.grain.specs.Dates.{monthLength, isDate}
-use Rattle.grain.proofs.Below.{and-left, and-right}
+use Rattle.grain.proofs.Tests.{&&-left, &&-right}
 
 pub record ValidDate (year month day : ℕ) : Type 0 where
   pub first : 2000 ≤ year
@@ -24,15 +24,15 @@ valid-date year month day e =
     let d = leb month 12 in
     let f = leb 1 day in
     let g = leb day (monthLength year month) in
-    let e₅ = and-left (a && b && c && d && f) g e in
-    let e₄ = and-left (a && b && c && d) f e₅ in
-    let e₃ = and-left (a && b && c) d e₄ in
-    let e₂ = and-left (a && b) c e₃ in
+    let e₅ = &&-left (a && b && c && d && f) g e in
+    let e₄ = &&-left (a && b && c && d) f e₅ in
+    let e₃ = &&-left (a && b && c) d e₄ in
+    let e₂ = &&-left (a && b) c e₃ in
     record {
-      first = leb-true _ _ (and-left a b e₂);
-      last = leb-true _ _ (and-right a b e₂);
-      someMonth = leb-true _ _ (and-right (a && b) c e₃);
-      lastMonth = leb-true _ _ (and-right (a && b && c) d e₄);
-      someDay = leb-true _ _ (and-right (a && b && c && d) f e₅);
-      lastDay = leb-true _ _ (and-right (a && b && c && d && f) g e);
+      first = leb-true _ _ (&&-left a b e₂);
+      last = leb-true _ _ (&&-right a b e₂);
+      someMonth = leb-true _ _ (&&-right (a && b) c e₃);
+      lastMonth = leb-true _ _ (&&-right (a && b && c) d e₄);
+      someDay = leb-true _ _ (&&-right (a && b && c && d) f e₅);
+      lastDay = leb-true _ _ (&&-right (a && b && c && d && f) g e);
     }

@@ -8,7 +8,7 @@ use lib.Dec.{ltb}
 use lib.ListN.{length, getD, drop, drop-of-length-le}
 use borrow.Author.Tests.{ltb-true, ltb-false}
 use Rattle.grain.proofs.Scans.{drop-next}
-use Rattle.season.specs.SeasonFile.{isAscending}
+use Rattle.grain.specs.Lists.{isAscending}
 
 module _ (ws : List ℕ) (i : ℕ) where
   pub ascending-next : i + 1 < length ws

@@ -1,10 +1,10 @@
 -- The season file, a list of bytes, and the line that `season` writes for it.
 use Prim.Native.Nat.{ℕ, zero, suc, _+_, _*_, _/_, _%_}
-use mathlib.Core.Bool.{Bool, true, not, _&&_, _||_, cond}
+use mathlib.Core.Bool.{Bool, not, _&&_, _||_, cond}
 use mathlib.Core.List.{List, [], _∷_}
 use lib.Dec.{ltb, eqb}
 use lib.ListN.{length, getD}
-use Rattle.grain.specs.Lists.{every}
+use Rattle.grain.specs.Lists.{every, isAscending}
 use Rattle.grain.specs.Products.{isProduct}
 use Rattle.grain.specs.Prices.{isSettlement}
 use Rattle.grain.specs.Dates.{isDate}
@@ -47,11 +47,6 @@ isMisshapen file =
 -- a date is year × 10,000 + month × 100 + day
 unfoldable pub isDateWord : ℕ → Bool
 isDateWord w = isDate (w / 10000) (w / 100 % 100) (w % 100)
-
-unfoldable pub isAscending : List ℕ → Bool
-isAscending [] = true
-isAscending (w ∷ []) = true
-isAscending (v ∷ w ∷ ws) = ltb v w && isAscending (w ∷ ws)
 
 -- the line of what the margin group's call answers, case by case
 abbrev pub limitsLine : ℕ → SeasonLimits → Line

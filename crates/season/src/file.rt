@@ -2,8 +2,8 @@
 ghost use mathlib.Core.Path.{_≡_};
 ghost use Prim.Native.Nat.{_+_, _*_, _<_, _≤_};
 ghost use lib.ListN.{length, getD};
-ghost use Rattle.grain.specs.Lists.{every};
-ghost use Rattle.season.specs.SeasonFile.{wordAt, wordsFrom, isMisshapen, isDateWord, isAscending, limitsLine, seasonLine};
+ghost use Rattle.grain.specs.Lists.{every, isAscending};
+ghost use Rattle.season.specs.SeasonFile.{wordAt, wordsFrom, isMisshapen, isDateWord, limitsLine, seasonLine};
 use grain::SeasonLimits;
 use grain::refusals::BAD_PRICE;
 use grain::refusals::MISSHAPEN;

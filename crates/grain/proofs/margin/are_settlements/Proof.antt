@@ -3,7 +3,7 @@ use Prim.Native.Nat.{_-_, _≤_}
 use mathlib.Core.Path.{_≡_, sym, _∙_}
 use borrow.Author.Tests.{not-true, not-false}
 use lib.ListN.{length, drop}
-use Rattle.grain.proofs.Scans.{every-next, every-end}
+use Rattle.grain.proofs.Scans.{every-fails, every-goes-on, every-end}
 use Rattle.grain.specs.Lists.{every}
 use Rattle.grain.specs.Prices.{isSettlement}
 use Rattle.grain.proofs.margin.are_settlements.Statement.{statement}
@@ -33,8 +33,7 @@ returns : tie.Need-returns Inv-loop μ-loop
 returns c =
     let k = c .before .before .before .before in
     let ss = k .before .before .args .settlements .now in
-    sym (k .loop .inv .1 ∙ every-next _ ss (k .loop .i) (search needs)
-    ∙ rw (sym (c .before .is-settlement .ensures) ∙ not-true _ (c .if1 .taken)))
+    sym (k .loop .inv .1 ∙ every-fails _ ss (k .loop .i) (search needs) (sym (c .before .is-settlement .ensures) ∙ not-true _ (c .if1 .taken)))
 
 add-i : tie.Need-add-i Inv-loop μ-loop
 add-i c = search needs
@@ -47,8 +46,7 @@ loop-again c =
     let k = c .before .before .before .before in
     let ss = k .before .before .args .settlements .now in (
       search needs,
-      k .loop .inv .1 ∙ every-next _ ss (k .loop .i) (search needs)
-          ∙ rw (sym (c .before .is-settlement .ensures) ∙ not-false _ (c .if1 .left)),
+      k .loop .inv .1 ∙ every-goes-on _ ss (k .loop .i) (search needs) (sym (c .before .is-settlement .ensures) ∙ not-false _ (c .if1 .left)),
     )
 
 returns-2 : tie.Need-returns-2 Inv-loop μ-loop

@@ -4,7 +4,7 @@ use mathlib.Core.Path.{_≡_, sym, _∙_}
 use borrow.Author.Tests.{not-true, not-false}
 use lib.ListN.{length, drop}
 use Rattle.grain.specs.Lists.{every}
-use Rattle.grain.proofs.Scans.{every-next, every-end}
+use Rattle.grain.proofs.Scans.{every-fails, every-goes-on, every-end}
 use Rattle.season.specs.SeasonFile.{isDateWord}
 use Rattle.season.proofs.file.are_dates.Statement.{statement}
 use Rattle.season.proofs.file.are_dates.Tie as tie
@@ -34,8 +34,7 @@ returns c =
     let ws = k .before .before .args .words .now in
     sym
     (k .loop .inv .1
-    ∙ every-next _ ws (k .loop .i) (search needs)
-    ∙ rw (sym (c .before .is-date .ensures) ∙ not-true _ (c .if1 .taken)))
+    ∙ every-fails _ ws (k .loop .i) (search needs) (sym (c .before .is-date .ensures) ∙ not-true _ (c .if1 .taken)))
 
 add-i : tie.Need-add-i Inv-loop μ-loop
 add-i c = search needs
@@ -50,8 +49,7 @@ loop-again c =
     let ws = k .before .before .args .words .now in (
       search needs,
       k .loop .inv .1
-          ∙ every-next _ ws (k .loop .i) (search needs)
-          ∙ rw (sym (c .before .is-date .ensures) ∙ not-false _ (c .if1 .left)),
+          ∙ every-goes-on _ ws (k .loop .i) (search needs) (sym (c .before .is-date .ensures) ∙ not-false _ (c .if1 .left)),
     )
 
 returns-2 : tie.Need-returns-2 Inv-loop μ-loop

@@ -3,7 +3,7 @@ use Prim.Native.Nat.{_-_, _≤_}
 use mathlib.Core.Path.{_≡_, sym, _∙_}
 use borrow.Author.Tests.{lt-ltb, le-ltb}
 use lib.ListN.{length, drop}
-use Rattle.season.specs.SeasonFile.{isAscending}
+use Rattle.grain.specs.Lists.{isAscending}
 use Rattle.season.proofs.Ascending.{ascending-next, ascending-end}
 use Rattle.season.proofs.file.is_ascending.Statement.{statement}
 use Rattle.season.proofs.file.is_ascending.Tie as tie

@@ -5,9 +5,9 @@ use native.Mathlib.Omega.{arith}
 use lib.ListN.{length}
 use borrow.Author.Needs.{needs}
 use borrow.Author.Tests.{not-true, not-false}
-use Rattle.grain.specs.Lists.{every}
+use Rattle.grain.specs.Lists.{every, isAscending}
 use Rattle.grain.specs.Products.{isProduct}
-use Rattle.season.specs.SeasonFile.{isMisshapen, isDateWord, isAscending, productIn, datesIn, settlementsIn, seasonLine}
+use Rattle.season.specs.SeasonFile.{isMisshapen, isDateWord, productIn, datesIn, settlementsIn, seasonLine}
 use Rattle.season.proofs.Shape.{shaped}
 use Rattle.season.proofs.Words.{words-length}
 use Rattle.season.proofs.Answers.{limits-are}

@@ -1,0 +1,14 @@
+pub mod Choices
+pub mod Refusals
+pub mod State
+pub mod Founding
+pub mod Opening
+pub mod Sheet
+pub mod Window
+pub mod End
+pub mod Check
+pub mod Sound
+pub mod Record
+pub mod History
+pub mod Replay
+pub mod Theorems

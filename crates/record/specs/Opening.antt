@@ -1,0 +1,63 @@
+-- The opening of a day.
+use Prim.Native.Nat.{ℕ, _+_, _*_}
+use mathlib.Core.Bool.{Bool, false, not, _&&_, cond}
+use mathlib.Core.List.{List, [], _∷_, map}
+use mathlib.Core.Option.{Option, some, none}
+use lib.Dec.{leb, eqb}
+use lib.ListN.{length}
+use Rattle.grain.specs.Amounts.{expandedOf, seasonOf}
+use Rattle.grain.specs.Dates.{isDate, daysRemaining, seasonNumber}
+use Rattle.grain.specs.Refusals.{noSuchDate}
+use Rattle.record.specs.Refusals.{Test, when, wrongPhase, notLater}
+use Rattle.record.specs.State.{Day, Product, Group, Common, monthOf}
+
+-- a date, with left at most the days remaining in its month
+unfoldable pub isTrueDay : Day → Bool
+isTrueDay d = isDate (d .year) (d .month) (d .day) && leb (d .left) (daysRemaining (d .year) (d .month) (d .day))
+
+abbrev pub dateNumber : Day → ℕ
+dateNumber d = d .year * 10000 + d .month * 100 + d .day
+
+abbrev pub isNotLater : Option Day → Day → Bool
+isNotLater none d = false
+isNotLater (some before) d = leb (dateNumber d) (dateNumber before)
+
+-- the refusals after 1, in their order
+unfoldable pub openingTests : Common → Day → List Test
+openingTests c d =
+    when (c .isOpen) wrongPhase
+    ∷ when (not (isTrueDay d)) noSuchDate
+    ∷ when (isNotLater (c .opened) d) notLater
+    ∷ []
+
+abbrev pub seasonOn : Day → ℕ
+seasonOn d = seasonNumber (monthOf d)
+
+-- exactly one season after that of the last opened day
+abbrev pub isNextSeason : Option Day → Day → Bool
+isNextSeason none d = false
+isNextSeason (some before) d = eqb (seasonOn d) (seasonOn before + 1)
+
+abbrev pub isOtherSeason : Option Day → Day → Bool
+isOtherSeason none d = false
+isOtherSeason (some before) d = not (eqb (seasonOn d) (seasonOn before))
+
+-- the product gets its season limits
+unfoldable pub isRenewed : Common → Day → Product → Bool
+isRenewed c d q = isNextSeason (c .opened) d && eqb (length (q .window)) 45
+
+unfoldable pub openProduct : Common → Day → Product → Product
+openProduct c d q =
+    let i = cond (isRenewed c d q) (seasonOf (q .number) (q .window)) (q .initialLimit) in
+    record {
+      number = q .number;
+      initialLimit = i;
+      expandedLimit = cond (isRenewed c d q) (expandedOf (q .number) i) (q .expandedLimit);
+      window = cond (isOtherSeason (c .opened) d) [] (q .window);
+      today = q .today;
+      last = q .last;
+    }
+
+-- levels and marks carry over
+unfoldable pub openGroup : Common → Day → Group → Group
+openGroup c d g = record { level = g .level; mark = g .mark; products = map (openProduct c d) (g .products) }

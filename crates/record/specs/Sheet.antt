@@ -1,0 +1,70 @@
+-- A sheet: the months and settlements of a product's contracts on the open day.
+use Prim.Native.Nat.{ℕ}
+use mathlib.Core.Bool.{Bool, false, not, _&&_, _||_, cond}
+use mathlib.Core.List.{List, [], _∷_, map}
+use mathlib.Core.Option.{Option, some, none}
+use lib.Dec.{leb, ltb, eqb}
+use lib.ListN.{length}
+use Rattle.grain.specs.Lists.{_and_, every, any, isAscending, distance}
+use Rattle.grain.specs.Products.{isTraded}
+use Rattle.grain.specs.Prices.{isSettlement}
+use Rattle.grain.specs.Refusals.{misshapen, badPrice}
+use Rattle.record.specs.Choices.{isSome}
+use Rattle.record.specs.Refusals.{Test, when, alreadyIn, badMonth, contractAbsent, beyondLimit}
+use Rattle.record.specs.State.{Day, Contract, Sheet, Product, Group, Common, dayOf, monthOf, isSpotOn, productIn, limitIn, sheetOr, settlementOn}
+
+-- the two arrays as contracts
+abbrev pub contracts : List ℕ → List ℕ → Sheet
+contracts [] ss = []
+contracts (m ∷ ms) [] = []
+contracts (m ∷ ms) (s ∷ ss) = record { month = m; settlement = s } ∷ contracts ms ss
+
+unfoldable pub isMisshapen : List ℕ → List ℕ → Bool
+isMisshapen ms ss = not (eqb (length ms) (length ss)) || eqb (length ms) 0 || ltb 16 (length ms)
+
+unfoldable pub hasBadMonth : Day → ℕ → List ℕ → Bool
+hasBadMonth d p ms = not (isAscending ms and every (isTraded p) ms and every (leb (monthOf d)) ms)
+
+unfoldable pub hasBadSettlement : ℕ → List ℕ → Bool
+hasBadSettlement p ss = not (every (isSettlement p) ss)
+
+-- a contract of the last ended sheet, non-spot today, is not on the sheet
+unfoldable pub lacksContract : Day → Sheet → Sheet → Bool
+lacksContract d last s = any (λ c. not (isSpotOn d (c .month)) && not (isSome (settlementOn s (c .month)))) last
+
+-- a contract that is not on the last ended sheet has no change
+abbrev pub movedBeyond : ℕ → ℕ → Option ℕ → Bool
+movedBeyond limit settlement none = false
+movedBeyond limit settlement (some before) = ltb limit (distance settlement before)
+
+-- a non-spot change is beyond the limit
+unfoldable pub isBeyond : Day → ℕ → Sheet → Sheet → Bool
+isBeyond d limit last s =
+    any (λ c. not (isSpotOn d (c .month)) && movedBeyond limit (c .settlement) (settlementOn last (c .month))) s
+
+-- the refusals after 1, 2 and 5, in their order
+unfoldable pub sheetTests : Common → Group → ℕ → List ℕ → List ℕ → List Test
+sheetTests c g p ms ss =
+    let d = dayOf c in
+    let q = productIn g p in
+    when (isSome (q .today)) alreadyIn
+    ∷ when (isMisshapen ms ss) misshapen
+    ∷ when (hasBadMonth d p ms) badMonth
+    ∷ when (hasBadSettlement p ss) badPrice
+    ∷ when (lacksContract d (sheetOr (q .last)) (contracts ms ss)) contractAbsent
+    ∷ when (isBeyond d (limitIn g p) (sheetOr (q .last)) (contracts ms ss)) beyondLimit
+    ∷ []
+
+unfoldable pub fileProduct : ℕ → Sheet → Product → Product
+fileProduct p s q =
+    record {
+      number = q .number;
+      initialLimit = q .initialLimit;
+      expandedLimit = q .expandedLimit;
+      window = q .window;
+      today = cond (eqb (q .number) p) (some s) (q .today);
+      last = q .last;
+    }
+
+unfoldable pub fileGroup : ℕ → Sheet → Group → Group
+fileGroup p s g = record { level = g .level; mark = g .mark; products = map (fileProduct p s) (g .products) }

@@ -1,0 +1,65 @@
+-- A sound Record: every field in its range, and the parts in agreement.
+use Prim.Native.Nat.{ℕ}
+use mathlib.Core.Bool.{Bool, true, false, not, _||_, cond}
+use mathlib.Core.List.{List, map}
+use mathlib.Core.Option.{Option, some, none}
+use lib.Dec.{leb, eqb}
+use lib.ListN.{length}
+use Rattle.grain.specs.Lists.{_and_, every, isAscending}
+use Rattle.grain.specs.Products.{isProduct, isTraded}
+use Rattle.grain.specs.Prices.{isSettlement}
+use Rattle.grain.specs.Amounts.{expandedOf, isFitAmount}
+use Rattle.record.specs.Choices.{isSome}
+use Rattle.record.specs.Opening.{isTrueDay}
+use Rattle.record.specs.State.{Contract, Sheet, Level, initial, expanded, Product, Group, Common, Record, dayOf}
+
+-- 1 to 16 contracts, months as in 7 without the date test, settlements on the standard tick
+unfoldable pub isSoundSheet : ℕ → Option Sheet → Bool
+isSoundSheet p none = true
+isSoundSheet p (some s) =
+    leb 1 (length s) and leb (length s) 16
+    and isAscending (map (λ (c : Contract). c .month) s)
+    and every (isTraded p) (map (λ (c : Contract). c .month) s)
+    and every (isSettlement p) (map (λ (c : Contract). c .settlement) s)
+
+unfoldable pub isSoundWindow : Product → Bool
+isSoundWindow q = leb (length (q .window)) 45 and every (isSettlement (q .number)) (q .window)
+
+unfoldable pub isSoundProduct : Product → Bool
+isSoundProduct q =
+    isProduct (q .number) and isFitAmount (q .number) (q .initialLimit)
+    and eqb (q .expandedLimit) (expandedOf (q .number) (q .initialLimit))
+    and isSoundWindow q
+    and isSoundSheet (q .number) (q .today)
+    and isSoundSheet (q .number) (q .last)
+
+abbrev pub isExpanded : Level → Bool
+isExpanded initial = false
+isExpanded expanded = true
+
+-- a mark only on an expanded group
+unfoldable pub isSoundGroup : Group → Bool
+isSoundGroup g = (not (g .mark) || isExpanded (g .level)) and every isSoundProduct (g .products)
+
+-- a date where a day is open
+unfoldable pub isSoundCommon : Common → Bool
+isSoundCommon c = cond (isSome (c .opened)) (isTrueDay (dayOf c)) (not (c .isOpen))
+
+abbrev pub everyProduct : (Product → Bool) → List Group → Bool
+everyProduct f gs = every (λ g. every f (g .products)) gs
+
+abbrev pub hasNoSheetIn : Product → Bool
+hasNoSheetIn q = not (isSome (q .today))
+
+abbrev pub hasLast : Product → Bool
+hasLast q = isSome (q .last)
+
+abbrev pub hasNoLast : Product → Bool
+hasNoLast q = not (isSome (q .last))
+
+-- no sheet in while no day is open; last ended sheets all, with a date, or none
+unfoldable pub isSound : Record → Bool
+isSound r =
+    isSoundCommon (r .common) and every isSoundGroup (r .groups)
+    and (r .common .isOpen || everyProduct hasNoSheetIn (r .groups))
+    and ((isSome (r .common .opened) and everyProduct hasLast (r .groups)) || everyProduct hasNoLast (r .groups))

@@ -1,0 +1,113 @@
+-- The contents of the Record, the rule's name for the plain second book: what all groups share, and a part for each group.
+use Prim.Native.Nat.{ℕ, suc}
+use mathlib.Core.Bool.{Bool, false, cond}
+use mathlib.Core.List.{List, [], _∷_}
+use mathlib.Core.Option.{Option, some, none}
+use lib.Dec.{eqb}
+use lib.ListN.{getD}
+use Rattle.grain.specs.Lists.{isIn}
+use Rattle.grain.specs.Dates.{contractMonth}
+use Rattle.grain.specs.Spot.{isSpot}
+use Rattle.record.specs.Choices.{orElse}
+
+-- A date with what the rule calls left: the business days of that month after this day.
+pub record Day : Type 0 where
+  pub year : ℕ
+  pub month : ℕ
+  pub day : ℕ
+  pub left : ℕ
+
+pub record Contract : Type 0 where
+  pub month : ℕ
+  pub settlement : ℕ
+
+abbrev pub Sheet : Type 0
+Sheet = List Contract
+
+pub data Level : Type 0 where
+  initial expanded : Level
+
+pub record Product : Type 0 where
+  pub number : ℕ
+  -- I and E of the rule
+  pub initialLimit : ℕ
+  pub expandedLimit : ℕ
+  -- oldest first
+  pub window : List ℕ
+  -- the sheet that is in today
+  pub today : Option Sheet
+  -- the sheet of the last ended day
+  pub last : Option Sheet
+
+pub record Group : Type 0 where
+  pub level : Level
+  -- the rule's mark: held on the ended day before, with a move of exactly E
+  pub mark : Bool
+  pub products : List Product
+
+pub record Common : Type 0 where
+  -- the last opened day
+  pub opened : Option Day
+  pub isOpen : Bool
+
+pub record Record : Type 0 where
+  pub common : Common
+  pub groups : List Group
+
+-- the products of each group: Corn; the Soybean Complex; Chicago Wheat; KC Wheat; Oats; Rough Rice
+unfoldable pub groupTable : List (List ℕ)
+groupTable = (0 ∷ []) ∷ (1 ∷ 2 ∷ 3 ∷ []) ∷ (4 ∷ []) ∷ (5 ∷ []) ∷ (6 ∷ []) ∷ (7 ∷ []) ∷ []
+
+-- the place of the group that holds a product
+abbrev pub placeIn : List (List ℕ) → ℕ → ℕ
+placeIn [] p = 0
+placeIn (ps ∷ l) p = cond (isIn p ps) 0 (suc (placeIn l p))
+
+abbrev pub groupOf : ℕ → ℕ
+groupOf p = placeIn groupTable p
+
+abbrev pub noDay : Day
+noDay = record { year = 0; month = 0; day = 0; left = 0 }
+
+abbrev pub noProduct : Product
+noProduct = record { number = 0; initialLimit = 0; expandedLimit = 0; window = []; today = none; last = none }
+
+abbrev pub noGroup : Group
+noGroup = record { level = initial; mark = false; products = [] }
+
+abbrev pub dayOf : Common → Day
+dayOf c = orElse (c .opened) noDay
+
+-- the contract month of a date
+abbrev pub monthOf : Day → ℕ
+monthOf d = contractMonth (d .year) (d .month)
+
+-- a contract month is spot on a day
+abbrev pub isSpotOn : Day → ℕ → Bool
+isSpotOn d month = isSpot month (monthOf d) (d .left)
+
+abbrev pub groupAt : Record → ℕ → Group
+groupAt r g = getD (r .groups) g noGroup
+
+abbrev pub find : ℕ → List Product → Product
+find p [] = noProduct
+find p (q ∷ l) = cond (eqb (q .number) p) q (find p l)
+
+abbrev pub productIn : Group → ℕ → Product
+productIn g p = find p (g .products)
+
+abbrev pub limitAt : Level → ℕ → ℕ → ℕ
+limitAt initial i e = i
+limitAt expanded i e = e
+
+-- today's limit of a product of the group: I or E by the group's level
+abbrev pub limitIn : Group → ℕ → ℕ
+limitIn g p = limitAt (g .level) (productIn g p .initialLimit) (productIn g p .expandedLimit)
+
+abbrev pub sheetOr : Option Sheet → Sheet
+sheetOr s = orElse s []
+
+-- the settlement of a month on a sheet
+abbrev pub settlementOn : Sheet → ℕ → Option ℕ
+settlementOn [] month = none
+settlementOn (c ∷ s) month = cond (eqb (c .month) month) (some (c .settlement)) (settlementOn s month)

@@ -1,0 +1,99 @@
+-- What is shown of the Record, for every list of calls from a founded one. proofs/Proved.antt has the proofs.
+use Prim.Native.Nat.{ℕ, _<_, _≤_}
+use mathlib.Core.Path.{_≡_}
+use mathlib.Core.Bool.{Bool, true, false, not}
+use mathlib.Core.List.{List}
+use mathlib.Core.Option.{some}
+use lib.Dec.{eqb}
+use Rattle.grain.specs.Lists.{every, distance}
+use Rattle.grain.specs.declared.check.Verdict.{Verdict}
+use Rattle.grain.specs.declared.check.Verdict.the-variants.{Free, Within, Below, Above}
+use Rattle.record.specs.Refusals.{unsound}
+use Rattle.record.specs.State.{Level, Record, dayOf, isSpotOn, groupOf, groupAt, productIn, limitAt, limitIn}
+use Rattle.record.specs.Founding.{Start, isFitStart, founded}
+use Rattle.record.specs.Check.{listed, checkAnswer}
+use Rattle.record.specs.Sound.{isSound}
+use Rattle.record.specs.Record.{Call, check, Answer, refused, opened, filed, ended, checked, step, stateAfter, answers}
+use Rattle.record.specs.History.{Entry, kept, SameFor}
+use Rattle.record.specs.Replay.{replay}
+
+-- the Record after a list of calls
+abbrev pub after : Start → List Call → Record
+after s cs = stateAfter (founded s) cs
+
+abbrev pub historyOf : Start → List Call → List Entry
+historyOf s cs = kept cs (answers (founded s) cs)
+
+-- the answer that a further price check gets
+abbrev pub checkAfter : Start → List Call → ℕ → ℕ → ℕ → ℕ → Answer
+checkAfter s cs p size month price = step (after s cs) (check p size month price) .answer
+
+abbrev pub isRefusal : ℕ → Answer → Bool
+isRefusal n (refused m) = eqb m n
+isRefusal n (opened l) = false
+isRefusal n filed = false
+isRefusal n (ended l) = false
+isRefusal n (checked v) = false
+
+-- ---- the Soybean Complex
+
+-- a product of the Record stands on a level, and the limit that a check and refusal 10 use is that level's, by its own amounts
+pub record Stands (r : Record) (l : Level) (p : ℕ) : Type 0 where
+  pub level : groupAt r (groupOf p) .level ≡ l
+  pub limit :
+      limitIn (groupAt r (groupOf p)) p
+      ≡ limitAt l (productIn (groupAt r (groupOf p)) p .initialLimit) (productIn (groupAt r (groupOf p)) p .expandedLimit)
+
+-- Soybeans, Soybean Oil and Soybean Meal stand on one level
+pub record OneLevel (r : Record) : Type 0 where
+  pub level : Level
+  pub soybeans : Stands r level 1
+  pub oil : Stands r level 2
+  pub meal : Stands r level 3
+
+-- a price of a listed, non-spot contract beyond its product's I and not beyond its E
+pub record BetweenLimits (r : Record) (p month price : ℕ) : Type 0 where
+  pub settlement : ℕ
+  pub isListed : listed (r .common) (groupAt r (groupOf p)) p month ≡ some settlement
+  pub notSpot : isSpotOn (dayOf (r .common)) month ≡ false
+  pub beyondInitial : productIn (groupAt r (groupOf p)) p .initialLimit < distance price settlement
+  pub notBeyondExpanded : distance price settlement ≤ productIn (groupAt r (groupOf p)) p .expandedLimit
+
+abbrev pub isWithin : Verdict → Bool
+isWithin Free = false
+isWithin Within = true
+isWithin Below = false
+isWithin Above = false
+
+abbrev pub verdictAfter : Record → ℕ → ℕ → ℕ → Verdict
+verdictAfter r p month price = checkAnswer (r .common) (groupAt r (groupOf p)) p month price
+
+-- ---- the theorems
+pub record Theorems : Type 0 where
+  -- the Record stays sound, so that no call of a list answers 1
+  pub staysSound : (s : Start) → isFitStart s ≡ true → (cs : List Call) → isSound (after s cs) ≡ true
+  pub neverUnsound :
+      (s : Start) → isFitStart s ≡ true → (cs : List Call)
+      → every (λ a. not (isRefusal unsound a)) (answers (founded s) cs) ≡ true
+  -- the state after a list is the replay of its history
+  pub replayed : (s : Start) (cs : List Call) → after s cs ≡ replay (historyOf s cs) (founded s)
+  -- the products of the Complex stand on one level
+  pub oneLevel : (s : Start) (cs : List Call) → OneLevel (after s cs)
+  -- said of answers alone: of two products of one group, two prices, each between its product's limits, are both within or both not
+  pub coupled :
+      (s : Start) (cs : List Call) (p q m n x y : ℕ) → groupOf p ≡ groupOf q
+      → BetweenLimits (after s cs) p m x → BetweenLimits (after s cs) q n y
+      → isWithin (verdictAfter (after s cs) p m x) ≡ isWithin (verdictAfter (after s cs) q n y)
+  -- two lists with the same openings and ends accepted and the same sheets of one group on each day: the same day is open after both, or none
+  pub sameDay :
+      (s : Start) (g : ℕ) (cs ds : List Call) → SameFor g (historyOf s cs) (historyOf s ds)
+      → after s cs .common ≡ after s ds .common
+  -- that group has the same level, mark, limits, windows and sheets
+  pub sameGroup :
+      (s : Start) (g : ℕ) (cs ds : List Call) → SameFor g (historyOf s cs) (historyOf s ds)
+      → groupAt (after s cs) g ≡ groupAt (after s ds) g
+  -- and any price check on it gets the same answer or refusal number
+  pub sameChecks :
+      (s : Start) → isFitStart s ≡ true → (g : ℕ) (cs ds : List Call)
+      → SameFor g (historyOf s cs) (historyOf s ds) → (p size month price : ℕ) → groupOf p ≡ g
+      → checkAfter s cs p size month price ≡ checkAfter s ds p size month price

@@ -1,0 +1,1 @@
+// The Record is definitions and theorems alone: specs/ and proofs/.
