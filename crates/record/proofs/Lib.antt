@@ -1,0 +1,5 @@
+pub mod Maps
+pub mod Kept
+pub mod Replayed
+pub mod Independence
+pub mod Coupled

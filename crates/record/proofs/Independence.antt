@@ -1,0 +1,122 @@
+-- A group's part of the Record depends on the openings, the ends and that group's sheets alone.
+use Prim.Native.Nat.{ℕ, zero, suc}
+use mathlib.Core.Path.{_≡_, refl, ap, ap₂, sym, _∙_}
+use mathlib.Core.Bool.{Bool, true, false, not}
+use mathlib.Core.List.{List, [], _∷_, map}
+use mathlib.Core.Option.{Option, some}
+use lib.ListN.{getD}
+use Rattle.record.specs.State.{Day, Sheet, Product, Group, Common, Record, noGroup, groupTable, groupAt}
+use Rattle.record.specs.Founding.{Start, foundProduct, foundGroup, founded}
+use Rattle.record.specs.Opening.{openGroup, openProduct}
+use Rattle.record.specs.End.{endGroup, endProduct}
+use Rattle.record.specs.Record.{Call}
+use Rattle.record.specs.History.{Filed, KeptDay, Entry, aDay, sheetAmong, Milestone, dayOpened, milestone, openingsAndEnds, sheetsOn, sheetsOf, productsOf, SameFor}
+use Rattle.record.specs.Replay.{commonAfter, holding, holdingGroup, endedIf, groupAfter, replay}
+use Rattle.record.specs.Theorems.{after, historyOf}
+use Rattle.record.proofs.Maps.{map-map, map-same}
+use Rattle.record.proofs.Replayed.{replayed}
+
+-- ---- the products of a group stay the same
+abbrev numbers : Group → List ℕ
+numbers g = map (λ (q : Product). q .number) (g .products)
+
+open-numbers : (c : Common) (d : Day) (g : Group) → numbers (openGroup c d g) ≡ numbers g
+unfolding openGroup openProduct
+open-numbers c d g = map-map _ _ _ (λ q. refl) (g .products)
+
+hold-numbers : (fs : List Filed) (g : Group) → numbers (holdingGroup fs g) ≡ numbers g
+unfolding holdingGroup holding
+hold-numbers fs g = map-map _ _ _ (λ q. refl) (g .products)
+
+end-numbers : (b : Bool) (d : Day) (g : Group) → numbers (endedIf b d g) ≡ numbers g
+unfolding endGroup endProduct
+end-numbers true d g = map-map _ _ _ (λ q. refl) (g .products)
+end-numbers false d g = refl
+
+after-numbers : (es : List Entry) (c : Common) (g : Group) → numbers (groupAfter es c g) ≡ numbers g
+unfolding groupAfter
+after-numbers [] c g = refl
+after-numbers (aDay k ∷ es) c g =
+    end-numbers (k .isEnded) (k .day) _
+    ∙ hold-numbers (k .sheets) _
+    ∙ open-numbers (commonAfter es c) (k .day) _
+    ∙ after-numbers es c g
+
+-- ---- the same sheets of its products, the same group
+hold-list : (s t : List Filed) (qs : List Product)
+    → map (sheetAmong s) (map (λ (q : Product). q .number) qs) ≡ map (sheetAmong t) (map (λ (q : Product). q .number) qs)
+    → map (holding s) qs ≡ map (holding t) qs
+unfolding holding
+hold-list s t [] e = refl
+hold-list s t (q ∷ qs) e =
+    let h : sheetAmong s (q .number) ≡ sheetAmong t (q .number) = cc in
+    let l : map (sheetAmong s) (map (λ (q : Product). q .number) qs) ≡ map (sheetAmong t) (map (λ (q : Product). q .number) qs) = cc in
+    ap₂ _∷_ (rw h) (hold-list s t qs l)
+
+hold-same : (s t : List Filed) (ps : List ℕ) (g : Group) → numbers g ≡ ps
+    → map (sheetAmong s) ps ≡ map (sheetAmong t) ps → holdingGroup s g ≡ holdingGroup t g
+unfolding holdingGroup
+hold-same s t ps g n e =
+    ap (λ (l : List Product). record { level = g .level; mark = g .mark; products = l })
+    (hold-list s t (g .products) (rw n e))
+
+common-same : (c : Common) (es fs : List Entry) → openingsAndEnds es ≡ openingsAndEnds fs → commonAfter es c ≡ commonAfter fs c
+common-same c [] [] e = refl
+common-same c [] (aDay l ∷ fs) e = cc
+common-same c (aDay k ∷ es) [] e = cc
+common-same c (aDay k ∷ es) (aDay l ∷ fs) e =
+    let d : k .day ≡ l .day = cc in
+    let b : k .isEnded ≡ l .isEnded = cc in
+    rw (d, b)
+
+abbrev daily : Common → KeptDay → Group → Group
+daily c k g = endedIf (k .isEnded) (k .day) (holdingGroup (k .sheets) (openGroup c (k .day) g))
+
+day-same : (ps : List ℕ) (k l : KeptDay) (c : Common) (g : Group) → numbers g ≡ ps
+    → k .day ≡ l .day → k .isEnded ≡ l .isEnded → map (sheetAmong (k .sheets)) ps ≡ map (sheetAmong (l .sheets)) ps
+    → daily c k g ≡ daily c l g
+day-same ps k l c g n d b s =
+    rw (d, b, hold-same (k .sheets) (l .sheets) ps (openGroup c (l .day) g) (open-numbers c (l .day) g ∙ n) s)
+
+module _ (ps : List ℕ) (c : Common) (g : Group) (n : numbers g ≡ ps) where
+  group-same : (es fs : List Entry) → openingsAndEnds es ≡ openingsAndEnds fs → sheetsOf ps es ≡ sheetsOf ps fs
+      → groupAfter es c g ≡ groupAfter fs c g
+  unfolding groupAfter
+  group-same [] [] e f = refl
+  group-same [] (aDay l ∷ fs) e f = cc
+  group-same (aDay k ∷ es) [] e f = cc
+  group-same (aDay k ∷ es) (aDay l ∷ fs) e f =
+      let e′ : openingsAndEnds es ≡ openingsAndEnds fs = cc in
+      let f′ : sheetsOf ps es ≡ sheetsOf ps fs = cc in
+      let d : k .day ≡ l .day = cc in
+      let b : k .isEnded ≡ l .isEnded = cc in
+      let s : map (sheetAmong (k .sheets)) ps ≡ map (sheetAmong (l .sheets)) ps = cc in
+      rw (common-same c es fs e′, group-same es fs e′ f′)
+      (day-same ps k l (commonAfter fs c) (groupAfter fs c g) (after-numbers fs c g ∙ n) d b s)
+
+-- ---- of the whole Record, one group
+module _ (f h : Group → Group) where
+  at-same : (l : List Group) (i : ℕ) → f (getD l i noGroup) ≡ h (getD l i noGroup)
+      → getD (map f l) i noGroup ≡ getD (map h l) i noGroup
+  at-same [] i e = refl
+  at-same (g ∷ l) zero e = e
+  at-same (g ∷ l) (suc i) e = at-same l i e
+
+found-numbers : (s : Start) (l : List (List ℕ)) (i : ℕ) → numbers (getD (map (foundGroup s) l) i noGroup) ≡ getD l i []
+unfolding foundGroup foundProduct
+found-numbers s [] i = refl
+found-numbers s (ps ∷ l) zero = map-map _ _ (λ p. p) (λ p. refl) ps ∙ map-same _ (λ p. refl) ps
+found-numbers s (ps ∷ l) (suc i) = found-numbers s l i
+
+module _ (s : Start) (g : ℕ) (cs ds : List Call) (same : SameFor g (historyOf s cs) (historyOf s ds)) where
+  pub same-day : after s cs .common ≡ after s ds .common
+  unfolding replay
+  same-day =
+      rw (replayed s cs, replayed s ds) (common-same (founded s .common) (historyOf s cs) (historyOf s ds) (same .openings))
+
+  pub same-group : groupAt (after s cs) g ≡ groupAt (after s ds) g
+  unfolding replay founded
+  same-group =
+      rw (replayed s cs, replayed s ds)
+      (at-same _ _ (founded s .groups) g
+      (group-same (productsOf g) (founded s .common) (groupAt (founded s) g) (found-numbers s groupTable g) _ _ (same .openings) (same .sheets)))

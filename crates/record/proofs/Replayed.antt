@@ -1,0 +1,144 @@
+-- The Record after a list of calls is the replay of its history.
+use Prim.Native.Nat.{ℕ}
+use mathlib.Core.Path.{_≡_, refl, ap, ap₂, sym, _∙_}
+use mathlib.Core.Bool.{Bool, true, false, not, cond}
+use mathlib.Core.List.{List, [], _∷_, map}
+use mathlib.Core.Option.{Option, some, none}
+use lib.Dec.{eqb}
+use Rattle.record.specs.State.{Day, Sheet, Product, Group, Common, Record}
+use Rattle.record.specs.Founding.{Start, founded}
+use Rattle.record.specs.Opening.{openGroup}
+use Rattle.record.specs.Sheet.{contracts, fileProduct, fileGroup}
+use Rattle.record.specs.Sound.{isSound}
+use Rattle.record.specs.Record.{Call, opening, sheet, end, check, tests, refusal, next, nextCommon, nextGroup, step, stateBy, stateAfter}
+use Rattle.record.specs.History.{Filed, KeptDay, Entry, aDay, add, sheetAmong, kept}
+use Rattle.record.specs.Replay.{commonAfter, over, holding, holdingGroup, endedIf, groupAfter, replay}
+use Rattle.record.specs.Theorems.{after, historyOf}
+use Rattle.record.proofs.Maps.{map-map, map-same}
+use Rattle.record.proofs.Kept.{addUnless, historyFrom, history-kept}
+
+abbrev withProducts : Group → List Product → Group
+withProducts g l = record { level = g .level; mark = g .mark; products = l }
+
+-- no sheet: nothing changes
+hold-none : (g : Group) → holdingGroup [] g ≡ g
+unfolding holdingGroup holding
+hold-none g = ap (withProducts g) (map-same (holding []) (λ q. refl) (g .products))
+
+over-cond : (b : Bool) (s : Sheet) (o w : Option Sheet) → cond b (some s) (over o w) ≡ over (cond b (some s) o) w
+over-cond true s o w = refl
+over-cond false s o w = refl
+
+-- a sheet more, of a product and of a group
+module _ (f : Filed) (fs : List Filed) where
+  filed-one : (q : Product) → fileProduct (f .product) (f .sheet) (holding fs q) ≡ holding (f ∷ fs) q
+  unfolding holding fileProduct
+  filed-one q =
+      ap
+      (λ (o : Option Sheet). record { number = q .number; initialLimit = q .initialLimit; expandedLimit = q .expandedLimit; window = q .window; today = o; last = q .last })
+      (over-cond (eqb (q .number) (f .product)) (f .sheet) (sheetAmong fs (q .number)) (q .today))
+
+  filed-more : (g : Group) → fileGroup (f .product) (f .sheet) (holdingGroup fs g) ≡ holdingGroup (f ∷ fs) g
+  unfolding holdingGroup fileGroup
+  filed-more g =
+      ap (withProducts g)
+      (map-map (fileProduct (f .product) (f .sheet)) (holding fs) (holding (f ∷ fs)) filed-one (g .products))
+
+-- a call that neither 1 nor 2 refuses finds a day open
+not-refused : (b : Bool) (n : ℕ) (o : Option ℕ) → cond (not b) (some n) o ≡ none → b ≡ true
+not-refused true n o e = refl
+not-refused false n o e = cc
+
+goes-on : (b : Bool) (n : ℕ) (o : Option ℕ) → cond b (some n) o ≡ none → o ≡ none
+goes-on true n o e = cc
+goes-on false n o e = e
+
+abbrev withGroups : Common → List Group → Record
+withGroups c l = record { common = c; groups = l }
+
+module _ (r₀ : Record) where
+  accept-opening : (d : Day) (es : List Entry) → next (replay es r₀) (opening d) ≡ replay (add (opening d) es) r₀
+  unfolding next nextCommon nextGroup replay groupAfter
+  accept-opening d es =
+      ap (withGroups (commonAfter (add (opening d) es) (r₀ .common)))
+      (map-map (openGroup (commonAfter es (r₀ .common)) d) (groupAfter es (r₀ .common))
+      (groupAfter (add (opening d) es) (r₀ .common))
+      (λ g. sym (hold-none (openGroup (commonAfter es (r₀ .common)) d (groupAfter es (r₀ .common) g)))) (r₀ .groups))
+
+  -- a sheet, on a day that is open
+  sheet-on : (p : ℕ) (ms ss : List ℕ) (d : Day) (fs : List Filed) (b : Bool) (es : List Entry) → not b ≡ true
+      → let ks = aDay (record { day = d; sheets = fs; isEnded = b }) ∷ es in
+        next (replay ks r₀) (sheet p ms ss) ≡ replay (add (sheet p ms ss) ks) r₀
+  unfolding next nextCommon nextGroup replay groupAfter
+  sheet-on p ms ss d fs true es e = cc
+  sheet-on p ms ss d fs false es e =
+      ap (withGroups (record { opened = some d; isOpen = true }))
+      (map-map _ _ _ (λ g. filed-more (record { product = p; sheet = contracts ms ss }) _ _) (r₀ .groups))
+
+  end-on : (d : Day) (fs : List Filed) (b : Bool) (es : List Entry) → not b ≡ true
+      → let ks = aDay (record { day = d; sheets = fs; isEnded = b }) ∷ es in
+        next (replay ks r₀) end ≡ replay (add end ks) r₀
+  unfolding next nextCommon nextGroup replay groupAfter
+  end-on d fs true es e = cc
+  end-on d fs false es e =
+      ap (withGroups (record { opened = some d; isOpen = false })) (map-map _ _ _ (λ g. refl) (r₀ .groups))
+
+  accept-check : (p size month price : ℕ) (es : List Entry) → next (replay es r₀) (check p size month price) ≡ replay es r₀
+  unfolding next nextCommon nextGroup replay
+  accept-check p size month price es =
+      ap (withGroups (commonAfter es (r₀ .common)))
+      (map-same (nextGroup (commonAfter es (r₀ .common)) (check p size month price)) (λ g. refl) _)
+
+-- a Record with no day behind it
+unfoldable pub IsFresh : Record → Type 0
+IsFresh r = r .common ≡ record { opened = none; isOpen = false }
+
+module _ (r₀ : Record) (f : IsFresh r₀) where
+  accept-sheet : (p : ℕ) (ms ss : List ℕ) (es : List Entry) → commonAfter es (r₀ .common) .isOpen ≡ true
+      → next (replay es r₀) (sheet p ms ss) ≡ replay (add (sheet p ms ss) es) r₀
+  unfolding IsFresh
+  accept-sheet p ms ss [] o = let z = ap (λ (c : Common). c .isOpen) f in cc
+  accept-sheet p ms ss (aDay k ∷ es) o = sheet-on r₀ p ms ss (k .day) (k .sheets) (k .isEnded) es o
+
+  accept-end : (es : List Entry) → commonAfter es (r₀ .common) .isOpen ≡ true → next (replay es r₀) end ≡ replay (add end es) r₀
+  unfolding IsFresh
+  accept-end [] o = let z = ap (λ (c : Common). c .isOpen) f in cc
+  accept-end (aDay k ∷ es) o = end-on r₀ (k .day) (k .sheets) (k .isEnded) es o
+
+  accepted : (c : Call) (es : List Entry) → refusal (replay es r₀) c ≡ none → next (replay es r₀) c ≡ replay (add c es) r₀
+  unfolding refusal tests replay
+  accepted (opening d) es e = accept-opening r₀ d es
+  accepted (sheet p ms ss) es e =
+      accept-sheet p ms ss es (not-refused _ _ _ (goes-on (not (isSound (replay es r₀))) _ _ e))
+  accepted end es e = accept-end es (not-refused _ _ _ (goes-on (not (isSound (replay es r₀))) _ _ e))
+  accepted (check p size month price) es e = accept-check r₀ p size month price es
+
+  stepped : (c : Call) (es : List Entry)
+      → step (replay es r₀) c .state ≡ replay (addUnless (refusal (replay es r₀) c) c es) r₀
+  unfolding step
+  stepped c es = go (refusal (replay es r₀) c) refl
+    where
+      go : (o : Option ℕ) → refusal (replay es r₀) c ≡ o → stateBy o (replay es r₀) c ≡ replay (addUnless o c es) r₀
+      go (some n) e = refl
+      go none e = accepted c es e
+
+  replayed-from : (es : List Entry) (cs : List Call)
+      → stateAfter (replay es r₀) cs ≡ replay (historyFrom es (replay es r₀) cs) r₀
+  unfolding stateAfter historyFrom
+  replayed-from es [] = refl
+  replayed-from es (c ∷ cs) = rw (stepped c es) (replayed-from (addUnless (refusal (replay es r₀) c) c es) cs)
+
+  nothing-yet : replay [] r₀ ≡ r₀
+  unfolding replay groupAfter
+  nothing-yet = ap (withGroups (r₀ .common)) (map-same _ (λ g. refl) (r₀ .groups))
+
+  replayed-fresh : (cs : List Call) → stateAfter r₀ cs ≡ replay (historyFrom [] r₀ cs) r₀
+  replayed-fresh cs = rw nothing-yet at (replayed-from [] cs)
+
+founded-fresh : (s : Start) → IsFresh (founded s)
+unfolding IsFresh founded
+founded-fresh s = refl
+
+pub replayed : (s : Start) (cs : List Call) → after s cs ≡ replay (historyOf s cs) (founded s)
+replayed s cs =
+    replayed-fresh (founded s) (founded-fresh s) cs ∙ ap (λ es. replay es (founded s)) (history-kept [] (founded s) cs)
