@@ -10,6 +10,10 @@ use Rattle.grain.specs.Amounts.{expandedOf}
 use Rattle.record.specs.Choices.{keep, concatMap}
 use Rattle.record.specs.Window.{windowAfter}
 use Rattle.record.specs.State.{Day, Contract, Sheet, Level, initial, expanded, Product, Group, Common, dayOf, isSpotOn, sheetOr, settlementOn}
+-- the leading contract, and a group's event with it
+pub use Rattle.record.specs.declared.Lead.{Lead}
+pub use Rattle.record.specs.declared.Event.{Event}
+pub use Rattle.record.specs.declared.Event.the-variants.{Quiet, Triggered, Held, Reverted, Raised}
 
 -- A non-spot contract that has a change.
 pub record Move : Type 0 where
@@ -61,10 +65,6 @@ isHolding m = leb (m .initialLimit) (m .size)
 abbrev pub isAtExpanded : Move → Bool
 isAtExpanded m = eqb (m .size) (m .expandedLimit)
 
-pub record Lead : Type 0 where
-  pub month : ℕ
-  pub product : ℕ
-
 -- the nearer month, then the lower product number
 abbrev pub isAhead : Lead → Lead → Bool
 isAhead a b = ltb (a .month) (b .month) || (eqb (a .month) (b .month) && ltb (a .product) (b .product))
@@ -78,13 +78,6 @@ abbrev pub leading : List Move → Option Lead
 leading [] = none
 leading (m ∷ ms) = some (aheadOf (record { month = m .month; product = m .product }) (leading ms))
 
-pub data Event : Type 0 where
-  quiet : Event
-  triggered : Lead → Event
-  held : Lead → Event
-  reverted : Event
-  raised : Lead → Event
-
 -- the event that a contract leads, or the other one where none meets the condition
 abbrev pub ledBy : Option Lead → (Lead → Event) → Event → Event
 ledBy none event other = other
@@ -96,33 +89,33 @@ raising true ms = keep isAtExpanded ms
 raising false ms = []
 
 unfoldable pub eventOf : Level → Bool → List Move → Event
-eventOf initial mark ms = ledBy (leading (keep isTrigger ms)) triggered quiet
-eventOf expanded mark ms = ledBy (leading (raising mark ms)) raised (ledBy (leading (keep isHolding ms)) held reverted)
+eventOf initial mark ms = ledBy (leading (keep isTrigger ms)) Triggered Quiet
+eventOf expanded mark ms = ledBy (leading (raising mark ms)) Raised (ledBy (leading (keep isHolding ms)) Held Reverted)
 
 unfoldable pub groupEvent : Common → Group → Event
 groupEvent c g = eventOf (g .level) (g .mark) (groupMoves (dayOf c) g)
 
 abbrev pub levelAfter : Event → Level
-levelAfter quiet = initial
-levelAfter (triggered l) = expanded
-levelAfter (held l) = expanded
-levelAfter reverted = initial
-levelAfter (raised l) = initial
+levelAfter Quiet = initial
+levelAfter (Triggered l) = expanded
+levelAfter (Held l) = expanded
+levelAfter Reverted = initial
+levelAfter (Raised l) = initial
 
 -- held with a move of exactly E is marked; every other event clears the mark
 abbrev pub markAfter : Event → Bool → Bool
-markAfter quiet atExpanded = false
-markAfter (triggered l) atExpanded = false
-markAfter (held l) atExpanded = atExpanded
-markAfter reverted atExpanded = false
-markAfter (raised l) atExpanded = false
+markAfter Quiet atExpanded = false
+markAfter (Triggered l) atExpanded = false
+markAfter (Held l) atExpanded = atExpanded
+markAfter Reverted atExpanded = false
+markAfter (Raised l) atExpanded = false
 
 abbrev pub isRaised : Event → Bool
-isRaised quiet = false
-isRaised (triggered l) = false
-isRaised (held l) = false
-isRaised reverted = false
-isRaised (raised l) = true
+isRaised Quiet = false
+isRaised (Triggered l) = false
+isRaised (Held l) = false
+isRaised Reverted = false
+isRaised (Raised l) = true
 
 -- raised: I = old E, and E afresh
 unfoldable pub endProduct : Day → Event → Product → Product

@@ -9,17 +9,9 @@ use Rattle.grain.specs.Lists.{isIn}
 use Rattle.grain.specs.Dates.{contractMonth}
 use Rattle.grain.specs.Spot.{isSpot}
 use Rattle.record.specs.Choices.{orElse}
-
--- A date with what the rule calls left: the business days of that month after this day.
-pub record Day : Type 0 where
-  pub year : ℕ
-  pub month : ℕ
-  pub day : ℕ
-  pub left : ℕ
-
-pub record Contract : Type 0 where
-  pub month : ℕ
-  pub settlement : ℕ
+-- a date with what the rule calls left, the business days of that month after this day; and a contract of a sheet
+pub use Rattle.record.specs.declared.Day.{Day}
+pub use Rattle.record.specs.declared.Contract.{Contract}
 
 abbrev pub Sheet : Type 0
 Sheet = List Contract

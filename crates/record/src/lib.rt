@@ -1,1 +1,29 @@
-// The Record is definitions and theorems alone: specs/ and proofs/.
+// What the Record and a book both speak of. The Record itself is definitions and theorems: specs/ and proofs/.
+
+// A date with its left: the business days of its month after it.
+pub struct Day {
+    pub year: u32,
+    pub month: u32,
+    pub day: u32,
+    pub left: u32,
+}
+
+pub struct Contract {
+    pub month: u32,
+    pub settlement: u32,
+}
+
+// The leading contract of an event.
+pub struct Lead {
+    pub month: u32,
+    pub product: u32,
+}
+
+// What the end of a day is for a group.
+pub enum Event {
+    Quiet,
+    Triggered(Lead),
+    Held(Lead),
+    Reverted,
+    Raised(Lead),
+}
