@@ -47,11 +47,11 @@ movesAmong q n [] = []
 movesAmong q n (c ∷ s) =
     moveFrom q (ltb 0 n) c (settlementOn (sheetOr (q .last)) (c .month)) ++ movesAmong q (pred n) s
 
-unfoldable pub productMoves : Day → Product → List Move
-productMoves d q = movesAmong q (firstOf (q .number)) (keep (λ c. not (isSpotOn d (c .month))) (sheetOr (q .today)))
+unfoldable pub productMoves : (ℕ → Bool) → Product → List Move
+productMoves spot q = movesAmong q (firstOf (q .number)) (keep (λ c. not (spot (c .month))) (sheetOr (q .today)))
 
 unfoldable pub groupMoves : Day → Group → List Move
-groupMoves d g = concatMap (productMoves d) (g .products)
+groupMoves d g = concatMap (productMoves (isSpotOn d)) (g .products)
 
 -- exactly I, within the first N
 abbrev pub isTrigger : Move → Bool

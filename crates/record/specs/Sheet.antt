@@ -28,9 +28,9 @@ hasBadMonth d p ms = not (isAscending ms and every (isTraded p) ms and every (le
 unfoldable pub hasBadSettlement : ℕ → List ℕ → Bool
 hasBadSettlement p ss = not (every (isSettlement p) ss)
 
--- a contract of the last ended sheet, non-spot today, is not on the sheet
-unfoldable pub lacksContract : Day → Sheet → Sheet → Bool
-lacksContract d last s = any (λ c. not (isSpotOn d (c .month)) && not (isSome (settlementOn s (c .month)))) last
+-- a contract of the last ended sheet, non-spot today, is not on the sheet; spot tells the spot months
+unfoldable pub lacksContract : (ℕ → Bool) → Sheet → Sheet → Bool
+lacksContract spot last s = any (λ c. not (spot (c .month)) && not (isSome (settlementOn s (c .month)))) last
 
 -- a contract that is not on the last ended sheet has no change
 abbrev pub movedBeyond : ℕ → ℕ → Option ℕ → Bool
@@ -38,9 +38,9 @@ movedBeyond limit settlement none = false
 movedBeyond limit settlement (some before) = ltb limit (distance settlement before)
 
 -- a non-spot change is beyond the limit
-unfoldable pub isBeyond : Day → ℕ → Sheet → Sheet → Bool
-isBeyond d limit last s =
-    any (λ c. not (isSpotOn d (c .month)) && movedBeyond limit (c .settlement) (settlementOn last (c .month))) s
+unfoldable pub isBeyond : (ℕ → Bool) → ℕ → Sheet → Sheet → Bool
+isBeyond spot limit last s =
+    any (λ c. not (spot (c .month)) && movedBeyond limit (c .settlement) (settlementOn last (c .month))) s
 
 -- the refusals after 1, 2 and 5, in their order
 unfoldable pub sheetTests : Common → Group → ℕ → List ℕ → List ℕ → List Test
@@ -51,8 +51,8 @@ sheetTests c g p ms ss =
     ∷ when (isMisshapen ms ss) misshapen
     ∷ when (hasBadMonth d p ms) badMonth
     ∷ when (hasBadSettlement p ss) badPrice
-    ∷ when (lacksContract d (sheetOr (q .last)) (contracts ms ss)) contractAbsent
-    ∷ when (isBeyond d (limitIn g p) (sheetOr (q .last)) (contracts ms ss)) beyondLimit
+    ∷ when (lacksContract (isSpotOn d) (sheetOr (q .last)) (contracts ms ss)) contractAbsent
+    ∷ when (isBeyond (isSpotOn d) (limitIn g p) (sheetOr (q .last)) (contracts ms ss)) beyondLimit
     ∷ []
 
 unfoldable pub fileProduct : ℕ → Sheet → Product → Product
