@@ -1,11 +1,14 @@
+pub mod Ascending
 pub mod Below
 pub mod Columns
+pub mod Every
+pub mod Fits
+pub mod Marked
 pub mod MonthSets
+pub mod OnTick
 pub mod Rounding
 pub mod Scans
 pub mod Sums
+pub mod Tests
 pub mod ValidDates
 pub mod Verdicts
-pub mod Marked
-pub mod OnTick
-pub mod Tests

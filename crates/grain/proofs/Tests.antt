@@ -1,6 +1,6 @@
--- The two sides of a test that is both.
+-- The two sides of a test that is both, or that is one of two.
 use mathlib.Core.Path.{_≡_, refl}
-use mathlib.Core.Bool.{Bool, true, false, _&&_}
+use mathlib.Core.Bool.{Bool, true, false, _&&_, _||_}
 use Rattle.grain.specs.Lists.{_and_}
 
 pub &&-left : (a b : Bool) → a && b ≡ true → a ≡ true
@@ -29,3 +29,7 @@ pub both : (a b : Bool) → a ≡ true → b ≡ true → a and b ≡ true
 unfolding _and_
 both true b s t = t
 both false b s t = s
+
+pub neither : (a b : Bool) → a || b ≡ false → (a ≡ false) × (b ≡ false)
+neither true b e = (e, cc)
+neither false b e = (refl, e)

@@ -29,8 +29,8 @@ not-within false = refl
 module _ (r : Record) (p month price : ℕ) (w : BetweenLimits r p month price) where
   by-level : (l : Level)
       → isWithin
-        (verdict false (w .settlement) (limitAt l (productIn (groupAt r (groupOf p)) p .initialLimit) (productIn (groupAt r (groupOf p)) p .expandedLimit)) price)
-        ≡ isExpanded l
+      (verdict false (w .settlement) (limitAt l (productIn (groupAt r (groupOf p)) p .initialLimit) (productIn (groupAt r (groupOf p)) p .expandedLimit)) price)
+      ≡ isExpanded l
   unfolding verdict
   by-level initial =
       rw (lt-leb (distance price (w .settlement)) (productIn (groupAt r (groupOf p)) p .initialLimit) (w .beyondInitial))

@@ -1,5 +1,14 @@
 pub mod Maps
+pub mod Checks
+pub mod Cleared
 pub mod Kept
 pub mod Replayed
 pub mod Independence
 pub mod Coupled
+pub mod SoundWindows
+pub mod SoundSheets
+pub mod SoundProducts
+pub mod SoundGroups
+pub mod SoundCalls
+pub mod StaysSound
+pub mod Proved

@@ -5,6 +5,8 @@ use mathlib.Core.Bool.{Bool, true, false, not, cond}
 use mathlib.Core.List.{List, [], _∷_, map}
 use mathlib.Core.Option.{Option, some, none}
 use lib.Dec.{eqb}
+use borrow.Author.Tests.{not-false}
+use Rattle.record.specs.Refusals.{when, unsound}
 use Rattle.record.specs.State.{Day, Sheet, Product, Group, Common, Record}
 use Rattle.record.specs.Founding.{Start, founded}
 use Rattle.record.specs.Opening.{openGroup}
@@ -15,6 +17,8 @@ use Rattle.record.specs.History.{Filed, KeptDay, Entry, aDay, add, sheet
 use Rattle.record.specs.Replay.{commonAfter, over, holding, holdingGroup, endedIf, groupAfter, replay}
 use Rattle.record.specs.Theorems.{after, historyOf}
 use Rattle.record.proofs.Maps.{map-map, map-same}
+use Rattle.record.proofs.Checks.{check-same}
+use Rattle.record.proofs.Cleared.{Clear, cleared}
 use Rattle.record.proofs.Kept.{addUnless, historyFrom, history-kept}
 
 abbrev withProducts : Group → List Product → Group
@@ -44,15 +48,6 @@ module _ (f : Filed) (fs : List Filed) where
       ap (withProducts g)
       (map-map (fileProduct (f .product) (f .sheet)) (holding fs) (holding (f ∷ fs)) filed-one (g .products))
 
--- a call that neither 1 nor 2 refuses finds a day open
-not-refused : (b : Bool) (n : ℕ) (o : Option ℕ) → cond (not b) (some n) o ≡ none → b ≡ true
-not-refused true n o e = refl
-not-refused false n o e = cc
-
-goes-on : (b : Bool) (n : ℕ) (o : Option ℕ) → cond b (some n) o ≡ none → o ≡ none
-goes-on true n o e = cc
-goes-on false n o e = e
-
 abbrev withGroups : Common → List Group → Record
 withGroups c l = record { common = c; groups = l }
 
@@ -68,7 +63,7 @@ module _ (r₀ : Record) where
   -- a sheet, on a day that is open
   sheet-on : (p : ℕ) (ms ss : List ℕ) (d : Day) (fs : List Filed) (b : Bool) (es : List Entry) → not b ≡ true
       → let ks = aDay (record { day = d; sheets = fs; isEnded = b }) ∷ es in
-        next (replay ks r₀) (sheet p ms ss) ≡ replay (add (sheet p ms ss) ks) r₀
+      next (replay ks r₀) (sheet p ms ss) ≡ replay (add (sheet p ms ss) ks) r₀
   unfolding next nextCommon nextGroup replay groupAfter
   sheet-on p ms ss d fs true es e = cc
   sheet-on p ms ss d fs false es e =
@@ -77,17 +72,11 @@ module _ (r₀ : Record) where
 
   end-on : (d : Day) (fs : List Filed) (b : Bool) (es : List Entry) → not b ≡ true
       → let ks = aDay (record { day = d; sheets = fs; isEnded = b }) ∷ es in
-        next (replay ks r₀) end ≡ replay (add end ks) r₀
+      next (replay ks r₀) end ≡ replay (add end ks) r₀
   unfolding next nextCommon nextGroup replay groupAfter
   end-on d fs true es e = cc
   end-on d fs false es e =
       ap (withGroups (record { opened = some d; isOpen = false })) (map-map _ _ _ (λ g. refl) (r₀ .groups))
-
-  accept-check : (p size month price : ℕ) (es : List Entry) → next (replay es r₀) (check p size month price) ≡ replay es r₀
-  unfolding next nextCommon nextGroup replay
-  accept-check p size month price es =
-      ap (withGroups (commonAfter es (r₀ .common)))
-      (map-same (nextGroup (commonAfter es (r₀ .common)) (check p size month price)) (λ g. refl) _)
 
 -- a Record with no day behind it
 unfoldable pub IsFresh : Record → Type 0
@@ -105,13 +94,18 @@ module _ (r₀ : Record) (f : IsFresh r₀) where
   accept-end [] o = let z = ap (λ (c : Common). c .isOpen) f in cc
   accept-end (aDay k ∷ es) o = end-on r₀ (k .day) (k .sheets) (k .isEnded) es o
 
+  -- none of the tests of an accepted call applies: 1 first, and for a sheet and an end then 2
+  clear : (es : List Entry) (c : Call) → refusal (replay es r₀) c ≡ none
+      → Clear (when (not (isSound (replay es r₀))) unsound ∷ tests (replay es r₀) c)
+  unfolding refusal
+  clear es c e = cleared (when (not (isSound (replay es r₀))) unsound ∷ tests (replay es r₀) c) e
+
   accepted : (c : Call) (es : List Entry) → refusal (replay es r₀) c ≡ none → next (replay es r₀) c ≡ replay (add c es) r₀
   unfolding refusal tests replay
   accepted (opening d) es e = accept-opening r₀ d es
-  accepted (sheet p ms ss) es e =
-      accept-sheet p ms ss es (not-refused _ _ _ (goes-on (not (isSound (replay es r₀))) _ _ e))
-  accepted end es e = accept-end es (not-refused _ _ _ (goes-on (not (isSound (replay es r₀))) _ _ e))
-  accepted (check p size month price) es e = accept-check r₀ p size month price es
+  accepted (sheet p ms ss) es e = accept-sheet p ms ss es (not-false _ (clear es (sheet p ms ss) e .1 .0))
+  accepted end es e = accept-end es (not-false _ (clear es end e .1 .0))
+  accepted (check p size month price) es e = check-same (replay es r₀) p size month price
 
   stepped : (c : Call) (es : List Entry)
       → step (replay es r₀) c .state ≡ replay (addUnless (refusal (replay es r₀) c) c es) r₀

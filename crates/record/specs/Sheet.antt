@@ -29,18 +29,24 @@ unfoldable pub hasBadSettlement : ℕ → List ℕ → Bool
 hasBadSettlement p ss = not (every (isSettlement p) ss)
 
 -- a contract of the last ended sheet, non-spot today, is not on the sheet; spot tells the spot months
+abbrev pub isAbsent : (ℕ → Bool) → Sheet → Contract → Bool
+isAbsent spot s c = not (spot (c .month)) && not (isSome (settlementOn s (c .month)))
+
 unfoldable pub lacksContract : (ℕ → Bool) → Sheet → Sheet → Bool
-lacksContract spot last s = any (λ c. not (spot (c .month)) && not (isSome (settlementOn s (c .month)))) last
+lacksContract spot last s = any (isAbsent spot s) last
 
 -- a contract that is not on the last ended sheet has no change
-abbrev pub movedBeyond : ℕ → ℕ → Option ℕ → Bool
-movedBeyond limit settlement none = false
-movedBeyond limit settlement (some before) = ltb limit (distance settlement before)
+abbrev pub isBeyondBy : ℕ → ℕ → Option ℕ → Bool
+isBeyondBy limit settlement none = false
+isBeyondBy limit settlement (some before) = ltb limit (distance settlement before)
 
 -- a non-spot change is beyond the limit
+abbrev pub hasMovedBeyond : (ℕ → Bool) → ℕ → Sheet → Contract → Bool
+hasMovedBeyond spot limit last c =
+    not (spot (c .month)) && isBeyondBy limit (c .settlement) (settlementOn last (c .month))
+
 unfoldable pub isBeyond : (ℕ → Bool) → ℕ → Sheet → Sheet → Bool
-isBeyond spot limit last s =
-    any (λ c. not (spot (c .month)) && movedBeyond limit (c .settlement) (settlementOn last (c .month))) s
+isBeyond spot limit last s = any (hasMovedBeyond spot limit last) s
 
 -- the refusals after 1, 2 and 5, in their order
 unfoldable pub sheetTests : Common → Group → ℕ → List ℕ → List ℕ → List Test

@@ -4,7 +4,7 @@ use mathlib.Core.Path.{_≡_, sym, _∙_}
 use borrow.Author.Tests.{lt-ltb, le-ltb}
 use lib.ListN.{length, drop}
 use Rattle.grain.specs.Lists.{isAscending}
-use Rattle.season.proofs.Ascending.{ascending-next, ascending-end}
+use Rattle.grain.proofs.Ascending.{ascending-next, ascending-end}
 use Rattle.season.proofs.file.is_ascending.Statement.{statement}
 use Rattle.season.proofs.file.is_ascending.Tie as tie
 

@@ -1,0 +1,45 @@
+-- The theorems about the Record, proved.
+use Prim.Native.Nat.{ℕ}
+use mathlib.Core.Path.{_≡_}
+use mathlib.Core.Bool.{true}
+use mathlib.Core.List.{List}
+use Rattle.record.specs.State.{Record, groupOf, groupAt}
+use Rattle.record.specs.Founding.{Start, isFitStart, founded}
+use Rattle.record.specs.Sound.{isSound}
+use Rattle.record.specs.Record.{Call, check, tests, refusal, answer, step}
+use Rattle.record.specs.History.{SameFor}
+use Rattle.record.specs.Theorems.{after, historyOf, checkAfter, Theorems}
+use Rattle.record.proofs.Replayed.{replayed}
+use Rattle.record.proofs.Independence.{same-day, same-group}
+use Rattle.record.proofs.Coupled.{one-level, coupled}
+use Rattle.record.proofs.StaysSound.{founded-sound, always-sound, never-unsound}
+
+-- a check on a sound Record reads what is common and the product's group
+check-reads : (r t : Record) (p size month price : ℕ) → isSound r ≡ true → isSound t ≡ true
+    → r .common ≡ t .common → groupAt r (groupOf p) ≡ groupAt t (groupOf p)
+    → step r (check p size month price) .answer ≡ step t (check p size month price) .answer
+unfolding step refusal tests answer
+check-reads r t p size month price s u c g = rw (s, u, c, g)
+
+stays-sound : (s : Start) → isFitStart s ≡ true → (cs : List Call) → isSound (after s cs) ≡ true
+stays-sound s f cs = always-sound (founded s) cs (founded-sound s f)
+
+same-checks : (s : Start) → isFitStart s ≡ true → (g : ℕ) (cs ds : List Call)
+    → SameFor g (historyOf s cs) (historyOf s ds) → (p size month price : ℕ) → groupOf p ≡ g
+    → checkAfter s cs p size month price ≡ checkAfter s ds p size month price
+same-checks s f g cs ds same p size month price e =
+    check-reads _ _ p size month price (stays-sound s f cs) (stays-sound s f ds) (same-day s g cs ds same)
+    (rw e (same-group s g cs ds same))
+
+pub theorems : Theorems
+theorems =
+    record {
+      staysSound = stays-sound;
+      neverUnsound = λ s f cs. never-unsound (founded s) cs (founded-sound s f);
+      replayed = replayed;
+      oneLevel = λ s cs. one-level (after s cs);
+      coupled = λ s cs. coupled (after s cs);
+      sameDay = same-day;
+      sameGroup = same-group;
+      sameChecks = same-checks;
+    }

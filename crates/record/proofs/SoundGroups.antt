@@ -1,0 +1,49 @@
+-- A group stays sound: its products do, and a mark stands only on an expanded group.
+use Prim.Native.Nat.{ℕ}
+use mathlib.Core.Path.{_≡_, refl}
+use mathlib.Core.Bool.{Bool, true, false, not, _||_}
+use mathlib.Core.List.{List}
+use mathlib.Core.Option.{some}
+use Rattle.grain.specs.Lists.{every, any}
+use Rattle.grain.specs.Amounts.{isFitFounding}
+use Rattle.grain.proofs.Tests.{and-left, and-right, both}
+use Rattle.grain.proofs.Every.{every-map}
+use Rattle.record.specs.State.{Day, Sheet, Group, Common, dayOf}
+use Rattle.record.specs.Founding.{Start, limitOf, foundProduct, foundGroup}
+use Rattle.record.specs.Opening.{openProduct, openGroup}
+use Rattle.record.specs.Sheet.{fileProduct, fileGroup}
+use Rattle.record.specs.End.{Event, Quiet, Triggered, Held, Reverted, Raised, levelAfter, markAfter, isAtExpanded, groupMoves, groupEvent, endProduct, endGroup}
+use Rattle.record.specs.Sound.{isSoundSheet, isSoundProduct, isExpanded, isSoundGroup}
+use Rattle.record.proofs.SoundProducts.{found-sound, open-sound, file-sound, end-sound}
+
+pub found-group : (s : Start) (ps : List ℕ) → every (λ p. isFitFounding p (limitOf s p)) ps ≡ true
+    → isSoundGroup (foundGroup s ps) ≡ true
+unfolding isSoundGroup foundGroup
+found-group s ps t = both _ _ refl (every-map _ (foundProduct s) isSoundProduct (found-sound s) ps t)
+
+pub open-group : (c : Common) (d : Day) (g : Group) → isSoundGroup g ≡ true → isSoundGroup (openGroup c d g) ≡ true
+unfolding isSoundGroup openGroup
+open-group c d g t =
+    both _ _ (and-left _ _ t) (every-map _ (openProduct c d) isSoundProduct (open-sound c d) (g .products) (and-right _ _ t))
+
+pub file-group : (p : ℕ) (s : Sheet) → isSoundSheet p (some s) ≡ true → (g : Group) → isSoundGroup g ≡ true
+    → isSoundGroup (fileGroup p s g) ≡ true
+unfolding isSoundGroup fileGroup
+file-group p s u g t =
+    both _ _ (and-left _ _ t) (every-map _ (fileProduct p s) isSoundProduct (file-sound p s u) (g .products) (and-right _ _ t))
+
+marked-expanded : (e : Event) (b : Bool) → not (markAfter e b) || isExpanded (levelAfter e) ≡ true
+marked-expanded Quiet b = refl
+marked-expanded (Triggered l) b = refl
+marked-expanded (Held l) true = refl
+marked-expanded (Held l) false = refl
+marked-expanded Reverted b = refl
+marked-expanded (Raised l) b = refl
+
+pub end-group : (c : Common) (g : Group) → isSoundGroup g ≡ true → isSoundGroup (endGroup c g) ≡ true
+unfolding isSoundGroup endGroup
+end-group c g t =
+    let d = dayOf c in
+    let e = groupEvent c g in
+    both _ _ (marked-expanded e (any isAtExpanded (groupMoves d g)))
+    (every-map _ (endProduct d e) isSoundProduct (end-sound d e) (g .products) (and-right _ _ t))

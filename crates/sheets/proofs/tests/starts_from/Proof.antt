@@ -1,0 +1,74 @@
+use borrow.Author.Needs.{needs}
+use native.Mathlib.Omega.{arith}
+use Prim.Native.Nat.{_-_, _≤_}
+use mathlib.Core.Path.{_≡_, sym, _∙_}
+use borrow.Author.Tests.{lt-leb, le-leb}
+use lib.Dec.{leb}
+use lib.ListN.{drop}
+use Rattle.grain.specs.Lists.{every}
+use Rattle.sheets.specs.Sheets.{contractsOf, monthsOf}
+use Rattle.sheets.proofs.Left.{mapped, every-fails, every-goes-on, every-end}
+use Rattle.sheets.proofs.tests.starts_from.Statement.{statement}
+use Rattle.sheets.proofs.tests.starts_from.Tie as tie
+use Rattle.sheets.proofs.tests.starts_from.Reads as reads
+use Rattle.sheets.proofs.tests.starts_from.Lts as lts
+
+abbrev Inv-loop : tie.InvT-loop
+Inv-loop month s n i₀ i =
+    (i ≤ n)
+    × (every (leb month) (monthsOf (contractsOf s)) ≡ every (leb month) (monthsOf (drop i (contractsOf s))))
+
+abbrev μ-loop : tie.MeasureT-loop
+μ-loop month s n i₀ i = n - i
+
+loop-holds : tie.Need-loop-holds Inv-loop μ-loop
+loop-holds c = search needs
+
+mul-c : tie.Need-mul-c Inv-loop μ-loop
+mul-c c = search needs
+
+element-copy-out-c : tie.Need-element-copy-out-c Inv-loop μ-loop
+element-copy-out-c c = search needs
+
+returns : tie.Need-returns Inv-loop μ-loop
+returns c =
+    let k = c .before .before .before .before in
+    sym
+    (k .loop .inv .1
+    ∙ every-fails (k .before .args .t2) (k .loop .i) (search mapped) (omega arith) (omega arith) _ (λ c. c .month)
+    (lt-leb _ _ (c .if1 .taken)))
+
+add-i : tie.Need-add-i Inv-loop μ-loop
+add-i c = search needs
+
+loop-less : tie.Need-loop-less Inv-loop μ-loop
+loop-less c = search needs
+
+loop-again : tie.Need-loop-again Inv-loop μ-loop
+loop-again c =
+    let k = c .before .before .before .before in (
+      omega arith,
+      k .loop .inv .1
+          ∙ every-goes-on (k .before .args .t2) (k .loop .i) (search mapped) (omega arith) (omega arith) _ (λ c. c .month)
+          (le-leb _ _ (c .if1 .left)),
+    )
+
+returns-2 : tie.Need-returns-2 Inv-loop μ-loop
+returns-2 c =
+    let k = c .before in
+    sym (k .loop .inv .1 ∙ every-end (k .before .args .t2) (k .loop .i) (omega arith) (omega arith) _ (λ c. c .month))
+
+pub starts-from-spec : {M : Type 1} → statement M
+starts-from-spec =
+    tie.close
+    (tie.spec
+    Inv-loop
+    μ-loop
+    loop-holds
+    mul-c
+    element-copy-out-c
+    returns
+    add-i
+    loop-less
+    loop-again
+    returns-2)

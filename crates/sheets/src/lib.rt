@@ -1,0 +1,27 @@
+// One product's sheet: look-up, and the tests over its contracts. The leaves of the book.
+// These functions are exported for the book alone; most ask for a count of at most 16, which the book tests first.
+use record::Contract;
+
+mod changes;
+mod filing;
+mod lookup;
+mod tests;
+
+pub use changes::is_beyond;
+pub use changes::lacks_contract;
+pub use filing::is_misshapen;
+pub use filing::no_sheet;
+pub use filing::sheet_of;
+pub use lookup::Listed;
+pub use lookup::find;
+pub use tests::are_settlements;
+pub use tests::are_traded;
+pub use tests::is_ascending;
+pub use tests::is_sound;
+pub use tests::starts_from;
+
+pub struct Sheet {
+    pub contracts: [Contract; 16],
+    // How many of the places are used; 0 where there is no sheet.
+    pub len: usize,
+}

@@ -1,0 +1,90 @@
+// The tests that a sheet passes by itself, each over all its contracts.
+ghost use mathlib.Core.Path.{_≡_};
+ghost use Prim.Native.Nat.{_≤_};
+ghost use lib.Dec.{leb};
+ghost use Rattle.grain.specs.Lists.{every, isAscending};
+ghost use Rattle.grain.specs.Products.{isTraded};
+ghost use Rattle.grain.specs.Prices.{isSettlement};
+ghost use Rattle.record.specs.Sound.{isSoundSheet};
+ghost use Rattle.sheets.specs.Sheets.{contractsOf, sheetIn, monthsOf, settlementsOf};
+use crate::Sheet;
+
+pub fn are_traded(product: u32, s: Sheet) -> bool
+    requires { ⌜ s .len ≤ 16 ⌝ }
+    ensures { λ r. ⌜ r ≡ every (isTraded product) (monthsOf (contractsOf s)) ⌝ }
+{
+    let n = s.len;
+    for i in 0..n {
+        let c = s.contracts[i];
+        if !grain::is_traded(product, c.month) {
+            return false;
+        }
+    }
+    true
+}
+
+pub fn are_settlements(product: u32, s: Sheet) -> bool
+    requires { ⌜ s .len ≤ 16 ⌝ }
+    ensures { λ r. ⌜ r ≡ every (isSettlement product) (settlementsOf (contractsOf s)) ⌝ }
+{
+    let n = s.len;
+    for i in 0..n {
+        let c = s.contracts[i];
+        if !grain::is_settlement(product, c.settlement) {
+            return false;
+        }
+    }
+    true
+}
+
+// No month is before a month.
+pub fn starts_from(month: u32, s: Sheet) -> bool
+    requires { ⌜ s .len ≤ 16 ⌝ }
+    ensures { λ r. ⌜ r ≡ every (leb month) (monthsOf (contractsOf s)) ⌝ }
+{
+    let n = s.len;
+    for i in 0..n {
+        let c = s.contracts[i];
+        if c.month < month {
+            return false;
+        }
+    }
+    true
+}
+
+pub fn is_ascending(s: Sheet) -> bool
+    requires { ⌜ s .len ≤ 16 ⌝ }
+    ensures { λ r. ⌜ r ≡ isAscending (monthsOf (contractsOf s)) ⌝ }
+{
+    let n = s.len;
+    let mut i = 0;
+    while i + 1 < n {
+        let c = s.contracts[i];
+        let next = s.contracts[i + 1];
+        if next.month <= c.month {
+            return false;
+        }
+        i += 1;
+    }
+    true
+}
+
+// Whether a book may hold the sheet, for a product; it asks nothing.
+pub fn is_sound(product: u32, s: Sheet) -> bool
+    ensures { λ r. ⌜ r ≡ isSoundSheet product (sheetIn s) ⌝ }
+{
+    let n = s.len;
+    if n == 0 {
+        return true;
+    }
+    if 16 < n {
+        return false;
+    }
+    if !is_ascending(s) {
+        return false;
+    }
+    if !are_traded(product, s) {
+        return false;
+    }
+    are_settlements(product, s)
+}
