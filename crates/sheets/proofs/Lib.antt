@@ -1,3 +1,4 @@
 pub mod Left
 pub mod Fills
 pub mod Lookups
+pub mod Soundness

@@ -5,6 +5,8 @@ use borrow.Author.Tests.{lt-leb, le-leb, eq-eqb, ne-eqb, not-true, not-false}
 use Rattle.grain.specs.Lists.{_and_}
 use Rattle.record.specs.Sound.{isSoundSheet}
 use Rattle.sheets.specs.Sheets.{contractsOf, sheetIn}
+use Rattle.sheets.proofs.Left.{mapped}
+use Rattle.sheets.proofs.Soundness.{sound-by-tests}
 use Rattle.sheets.proofs.tests.is_sound.Statement.{statement}
 use Rattle.sheets.proofs.tests.is_sound.Tie as tie
 use Rattle.sheets.proofs.tests.is_sound.Reads as reads
@@ -26,22 +28,35 @@ is-ascending-requires : tie.Need-is-ascending-requires
 is-ascending-requires c κs = search needs
 
 returns-3 : tie.Need-returns-3
-unfolding sheetIn isSoundSheet _and_
-returns-3 c = ?
+unfolding _and_
+returns-3 c =
+    let k = c .before .before in
+    rw
+    (sound-by-tests _ (k .before .before .args .s) (search mapped) (k .before .if1 .left) (k .if2 .left), sym (c .before .is-ascending .ensures) ∙ not-true _ (c .if3 .taken))
 
 are-traded-requires : tie.Need-are-traded-requires
 are-traded-requires c κs = search needs
 
 returns-4 : tie.Need-returns-4
-unfolding sheetIn isSoundSheet _and_
-returns-4 c = ?
+unfolding _and_
+returns-4 c =
+    let j = c .before .before in
+    let k = j .before .before in
+    rw
+    (sound-by-tests _ (k .before .before .args .s) (search mapped) (k .before .if1 .left) (k .if2 .left), sym (j .before .is-ascending .ensures) ∙ not-false _ (j .if3 .left), sym (c .before .are-traded .ensures) ∙ not-true _ (c .if4 .taken))
 
 are-settlements-requires : tie.Need-are-settlements-requires
 are-settlements-requires c κs = search needs
 
 returns-5 : tie.Need-returns-5
-unfolding sheetIn isSoundSheet _and_
-returns-5 c = ?
+unfolding _and_
+returns-5 c =
+    let i = c .before in
+    let j = i .before .before in
+    let k = j .before .before in
+    rw
+    (sound-by-tests _ (k .before .before .args .s) (search mapped) (k .before .if1 .left) (k .if2 .left), sym (j .before .is-ascending .ensures) ∙ not-false _ (j .if3 .left), sym (i .before .are-traded .ensures) ∙ not-false _ (i .if4 .left))
+    (c .are-settlements .ensures)
 
 pub is-sound-spec : {M : Type 1} → statement M
 is-sound-spec =
