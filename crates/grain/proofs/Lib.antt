@@ -3,7 +3,6 @@ pub mod Below
 pub mod Columns
 pub mod Every
 pub mod Fits
-pub mod Marked
 pub mod MonthSets
 pub mod OnTick
 pub mod Rounding

@@ -12,3 +12,11 @@ pub mod SoundGroups
 pub mod SoundCalls
 pub mod StaysSound
 pub mod Proved
+pub mod Examples
+pub mod Marked
+pub mod EndCases
+pub mod SeasonCases
+pub mod WindowCases
+pub mod CheckCases
+pub mod RefusalCases
+pub mod SameHistoryCases
