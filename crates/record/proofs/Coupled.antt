@@ -2,15 +2,18 @@
 use Prim.Native.Nat.{ℕ}
 use mathlib.Core.Path.{_≡_, refl, ap, sym, _∙_}
 use mathlib.Core.Bool.{Bool, true, false, cond}
+use mathlib.Core.Option.{Option, some, none}
 use lib.Dec.{ltb}
 use borrow.Author.Tests.{le-leb, lt-leb}
 use Rattle.grain.specs.Lists.{distance}
 use Rattle.grain.specs.Check.{verdict}
+use Rattle.grain.specs.declared.check.Verdict.{Verdict}
 use Rattle.grain.specs.declared.check.Verdict.the-variants.{Below, Above}
 use Rattle.record.specs.State.{Level, initial, expanded, Record, groupTable, groupOf, groupAt, productIn, limitAt}
 use Rattle.record.specs.Check.{checkAnswer}
 use Rattle.record.specs.Sound.{isExpanded}
-use Rattle.record.specs.Theorems.{Stands, OneLevel, BetweenLimits, isWithin, verdictAfter}
+use Rattle.record.specs.Record.{check, checked, refusal, answer, answerBy, step}
+use Rattle.record.specs.Theorems.{OneLevel, BetweenLimits, isWithin}
 
 pub one-level : (r : Record) → OneLevel r
 unfolding groupTable
@@ -38,13 +41,23 @@ module _ (r : Record) (p month price : ℕ) (w : BetweenLimits r p month price) 
   by-level expanded =
       rw (le-leb (distance price (w .settlement)) (productIn (groupAt r (groupOf p)) p .expandedLimit) (w .notBeyondExpanded))
 
-  within-by-level : isWithin (verdictAfter r p month price) ≡ isExpanded (groupAt r (groupOf p) .level)
-  unfolding checkAnswer
-  within-by-level = rw (w .notSpot, w .isListed) (by-level (groupAt r (groupOf p) .level))
+  -- what an accepted check answers
+  within-by-level : (size : ℕ) (v : Verdict) → step r (check p size month price) .answer ≡ checked v
+      → isWithin v ≡ isExpanded (groupAt r (groupOf p) .level)
+  unfolding step answer checkAnswer
+  within-by-level size v e = go (refusal r (check p size month price)) e
+    where
+      go : (o : Option ℕ) → answerBy o (answer r (check p size month price)) ≡ checked v
+          → isWithin v ≡ isExpanded (groupAt r (groupOf p) .level)
+      go (some n) e = cc
+      go none e =
+          let is : checkAnswer (r .common) (groupAt r (groupOf p)) p month price ≡ v = cc in
+          rw (← is) (rw (w .notSpot, w .isListed) (by-level (groupAt r (groupOf p) .level)))
 
-pub coupled : (r : Record) (p q m n x y : ℕ) → groupOf p ≡ groupOf q → BetweenLimits r p m x → BetweenLimits r q n y
-    → isWithin (verdictAfter r p m x) ≡ isWithin (verdictAfter r q n y)
-coupled r p q m n x y e v w =
-    within-by-level r p m x v
+pub coupled : (r : Record) (p q i j m n x y : ℕ) (v w : Verdict) → groupOf p ≡ groupOf q
+    → BetweenLimits r p m x → BetweenLimits r q n y
+    → step r (check p i m x) .answer ≡ checked v → step r (check q j n y) .answer ≡ checked w → isWithin v ≡ isWithin w
+coupled r p q i j m n x y v w e a b f h =
+    within-by-level r p m x a i v f
     ∙ ap (λ (g : ℕ). isExpanded (groupAt r g .level)) e
-    ∙ sym (within-by-level r q n y w)
+    ∙ sym (within-by-level r q n y b j w h)

@@ -19,7 +19,7 @@ use Rattle.record.specs.Window.{collectedMonth, windowAfter}
 use Rattle.record.specs.End.{Event, Quiet, Lead, productMoves, groupMoves, eventOf, groupEvent, endProduct, endGroup}
 use Rattle.record.specs.Check.{checkTests, checkAnswer}
 use Rattle.record.specs.Sound.{isSoundSheet, isSoundWindow, isSoundProduct, isSoundGroup, isSoundCommon, isSound}
-use Rattle.record.specs.Record.{Call, opening, sheet, end, check, Answer, refused, opened, filed, ended, checked, isOutstanding, tests, refusal, answer, nextCommon, nextGroup, next, Result, step, stateAfter, answers}
+use Rattle.record.specs.Record.{Call, opening, sheet, end, Answer, refused, opened, filed, ended, checked, isOutstanding, tests, refusal, answer, nextCommon, nextGroup, next, Result, step, stateAfter, answers}
 use Rattle.record.specs.History.{keptFrom}
 
 -- ---- products, groups, contract months and days by name

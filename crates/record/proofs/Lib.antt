@@ -20,3 +20,4 @@ pub mod WindowCases
 pub mod CheckCases
 pub mod RefusalCases
 pub mod SameHistoryCases
+pub mod SoundCases

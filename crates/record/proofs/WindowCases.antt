@@ -7,10 +7,10 @@ use Rattle.record.specs.State.{Day}
 use Rattle.record.specs.Record.{Call, sheet}
 use Rattle.record.proofs.Examples.{corn, soybeans, oil, meal, chicagoWheat, kcWheat, oats, rice, jul25, nov25, dec25, jul26, on, aBook, aBookWith, oneContract, fullDay, cornJulyDay, notCorn, stateOf, windowsOf}
 
--- 15 April is collected, 16 April rests
-pub middleOfApril :
-    windowsOf (stateOf aBook (cornJulyDay (on 2025 4 15 0) 6000 ++ cornJulyDay (on 2025 4 16 0) 6100))
-    ≡ (6000 ∷ [])
+-- a settlement of each product
+abbrev oneOfEach : List (List ℕ)
+oneOfEach =
+    (6000 ∷ [])
     ∷ (8000 ∷ [])
     ∷ (5000 ∷ [])
     ∷ (4000 ∷ [])
@@ -19,6 +19,11 @@ pub middleOfApril :
     ∷ (1920 ∷ [])
     ∷ (3000 ∷ [])
     ∷ []
+
+-- 15 April is collected, 16 April rests
+pub middleOfApril :
+    windowsOf (stateOf aBook (cornJulyDay (on 2025 4 15 0) 6000 ++ cornJulyDay (on 2025 4 16 0) 6100))
+    ≡ oneOfEach
 unfolding stateOf
 middleOfApril = refl
 
@@ -40,30 +45,14 @@ newCropDay d c s =
 -- 15 October is collected, also a November that is spot by then; 16 October rests
 pub middleOfOctober :
     windowsOf (stateOf aBook (newCropDay (on 2025 10 15 1) 6000 8000 ++ newCropDay (on 2025 10 16 0) 6200 8200))
-    ≡ (6000 ∷ [])
-    ∷ (8000 ∷ [])
-    ∷ (5000 ∷ [])
-    ∷ (4000 ∷ [])
-    ∷ (4000 ∷ [])
-    ∷ (4000 ∷ [])
-    ∷ (1920 ∷ [])
-    ∷ (3000 ∷ [])
-    ∷ []
+    ≡ oneOfEach
 unfolding stateOf
 middleOfOctober = refl
 
 -- from 1 May on the new crop's contract is collected
 pub firstOfMay :
     windowsOf (stateOf aBook (newCropDay (on 2025 5 1 21) 6000 8000))
-    ≡ (6000 ∷ [])
-    ∷ (8000 ∷ [])
-    ∷ (5000 ∷ [])
-    ∷ (4000 ∷ [])
-    ∷ (4000 ∷ [])
-    ∷ (4000 ∷ [])
-    ∷ (1920 ∷ [])
-    ∷ (3000 ∷ [])
-    ∷ []
+    ≡ oneOfEach
 unfolding stateOf
 firstOfMay = refl
 

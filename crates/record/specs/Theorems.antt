@@ -11,7 +11,7 @@ use Rattle.grain.specs.declared.check.Verdict.the-variants.{Free, Within, Below
 use Rattle.record.specs.Refusals.{unsound}
 use Rattle.record.specs.State.{Level, Record, dayOf, isSpotOn, groupOf, groupAt, productIn, limitAt, limitIn}
 use Rattle.record.specs.Founding.{Start, isFitStart, founded}
-use Rattle.record.specs.Check.{listed, checkAnswer}
+use Rattle.record.specs.Check.{listed}
 use Rattle.record.specs.Sound.{isSound}
 use Rattle.record.specs.Record.{Call, check, Answer, refused, opened, filed, ended, checked, step, stateAfter, answers}
 use Rattle.record.specs.History.{Entry, kept, SameFor}
@@ -65,9 +65,6 @@ isWithin Within = true
 isWithin Below = false
 isWithin Above = false
 
-abbrev pub verdictAfter : Record → ℕ → ℕ → ℕ → Verdict
-verdictAfter r p month price = checkAnswer (r .common) (groupAt r (groupOf p)) p month price
-
 -- ---- the theorems
 pub record Theorems : Type 0 where
   -- the Record stays sound, so that no call of a list answers 1
@@ -79,11 +76,11 @@ pub record Theorems : Type 0 where
   pub replayed : (s : Start) (cs : List Call) → after s cs ≡ replay (historyOf s cs) (founded s)
   -- the products of the Complex stand on one level
   pub oneLevel : (s : Start) (cs : List Call) → OneLevel (after s cs)
-  -- said of answers alone: of two products of one group, two prices, each between its product's limits, are both within or both not
+  -- said of answers: of two products of one group, two prices, each between its product's limits, are both within or both not
   pub coupled :
-      (s : Start) (cs : List Call) (p q m n x y : ℕ) → groupOf p ≡ groupOf q
+      (s : Start) (cs : List Call) (p q i j m n x y : ℕ) (v w : Verdict) → groupOf p ≡ groupOf q
       → BetweenLimits (after s cs) p m x → BetweenLimits (after s cs) q n y
-      → isWithin (verdictAfter (after s cs) p m x) ≡ isWithin (verdictAfter (after s cs) q n y)
+      → checkAfter s cs p i m x ≡ checked v → checkAfter s cs q j n y ≡ checked w → isWithin v ≡ isWithin w
   -- two lists with the same openings and ends accepted and the same sheets of one group on each day: the same day is open after both, or none
   pub sameDay :
       (s : Start) (g : ℕ) (cs ds : List Call) → SameFor g (historyOf s cs) (historyOf s ds)
