@@ -1,4 +1,4 @@
--- Each return follows from the tests before it: `whole`, `sold`, `dated` and `rising` are what is known past each.
+-- Each return follows from the tests before it: `whole`, `offered`, `dated` and `rising` are what is known past each.
 use mathlib.Core.Path.{_≡_, sym, _∙_}
 use mathlib.Core.Bool.{true, false}
 use native.Mathlib.Omega.{arith}
@@ -20,8 +20,8 @@ whole c = sym (c .before .is-misshapen .ensures) ∙ c .if1 .left
 long : (c : tie.Else1) → length (c .before .before .before .args .file .now) ≡ 368
 long c = shaped _ (whole c)
 
-sold : (c : tie.Else2) → isProduct (productIn (c .before .before .before .before .before .before .args .file .now)) ≡ true
-sold c =
+offered : (c : tie.Else2) → isProduct (productIn (c .before .before .before .before .before .before .args .file .now)) ≡ true
+offered c =
     rw (c .before .before .word .ensures) at (sym (c .before .is-product .ensures) ∙ not-false _ (c .if2 .left))
 
 dated : (c : tie.Else3)
@@ -70,7 +70,7 @@ returns-3 c =
     let k = c .before .before .before .before in
     let m = k .before .before .before in
     simp
-    (whole m, sold k, rw (c .before .before .before .words .ensures) at (sym (c .before .are-dates .ensures) ∙ not-true _ (c .if3 .taken)))
+    (whole m, offered k, rw (c .before .before .before .words .ensures) at (sym (c .before .are-dates .ensures) ∙ not-true _ (c .if3 .taken)))
 
 slice-aggregate-is-ascending : tie.Need-slice-aggregate-is-ascending
 slice-aggregate-is-ascending c = search needs
@@ -84,7 +84,7 @@ returns-4 c =
     let k₃ = c .before .before .before in
     let k₂ = k₃ .before .before .before .before in
     simp
-    (whole (k₂ .before .before .before), sold k₂, dated k₃, rw (k₃ .before .before .before .words .ensures) at (sym (c .before .is-ascending .ensures) ∙ not-true _ (c .if4 .taken)))
+    (whole (k₂ .before .before .before), offered k₂, dated k₃, rw (k₃ .before .before .before .words .ensures) at (sym (c .before .is-ascending .ensures) ∙ not-true _ (c .if4 .taken)))
 
 words-requires-2 : tie.Need-words-requires-2
 words-requires-2 c κs = omega (arith, long (c .before .before .before .before .before .before .before .before .before .before))
@@ -105,9 +105,9 @@ returns-5 c =
     let k₃ = k₄ .before .before .before in
     let k₂ = k₃ .before .before .before .before in
     let file = k₂ .before .before .before .before .before .before .args .file .now in
-    let read = limits-are (productIn file) (settlementsIn file) (sold k₂) (words-length file 47 45) in
+    let read = limits-are (productIn file) (settlementsIn file) (offered k₂) (words-length file 47 45) in
     simp
-    (whole (k₂ .before .before .before), sold k₂, dated k₃, rising k₄)
+    (whole (k₂ .before .before .before), offered k₂, dated k₃, rising k₄)
     (c .limits-line .ensures
     ∙ rw (c .before .season-limits .ensures, c .before .before .before .words2 .ensures, k₂ .before .before .word .ensures) read)
 
