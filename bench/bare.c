@@ -92,26 +92,35 @@ static double median(struct measured *measured)
     return measured->nanoseconds[ROUNDS / 2];
 }
 
+/* Prints a C version with the ratio to it; the answers have to be the same. */
+static int compare(const char *name, double proved_ns, uint64_t proved_sum, struct measured *plain)
+{
+    double plain_ns = median(plain);
+
+    if (proved_sum != plain->sum) {
+        printf("%s differs: sums %" PRIu64 " and %" PRIu64 "\n", name, proved_sum, plain->sum);
+        return 1;
+    }
+    printf("%s  %.2f ns a call, ratio %.2f\n", name, plain_ns, proved_ns / plain_ns);
+    return 0;
+}
+
 int main(void)
 {
     struct measured proved = {botskhela_bare_check, 0, {0}};
     struct measured plain = {bare_in_c, 0, {0}};
-    double proved_ns, plain_ns;
+    struct measured masked = {masked_in_c, 0, {0}};
+    double proved_ns;
 
     for (int i = 0; i < CALLS; i++)
         calls[i] = draw_call();
     for (int round = 0; round < ROUNDS; round++) {
         measure(&proved, round);
         measure(&plain, round);
-    }
-    if (proved.sum != plain.sum) {
-        printf("the answers differ: sums %" PRIu64 " and %" PRIu64 "\n", proved.sum, plain.sum);
-        return 1;
+        measure(&masked, round);
     }
     proved_ns = median(&proved);
-    plain_ns = median(&plain);
-    printf("botskhela_bare_check  %.2f ns a call\n", proved_ns);
-    printf("plain C, gcc -O3      %.2f ns a call\n", plain_ns);
-    printf("ratio                 %.2f\n", proved_ns / plain_ns);
-    return 0;
+    printf("botskhela_bare_check        %.2f ns a call\n", proved_ns);
+    return compare("C at -O3, tick by remainder", proved_ns, proved.sum, &plain) |
+           compare("C at -O3, tick by mask     ", proved_ns, proved.sum, &masked);
 }

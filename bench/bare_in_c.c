@@ -15,10 +15,19 @@ static const uint32_t TICK[PRODUCTS][SIZES] = {
     {2, 1}, {2, 1}, {1, 0}, {1, 0}, {2, 1}, {2, 0}, {2, 0}, {1, 0},
 };
 
+/* Compiled twice: by the remainder, and with MASKED by a mask, as every tick is 1 or 2. */
+#ifdef MASKED
+#define BARE_IN_C masked_in_c
+#define IS_ON_TICK(price, tick) (((price) & ((tick) - 1)) == 0)
+#else
+#define BARE_IN_C bare_in_c
+#define IS_ON_TICK(price, tick) ((price) % (tick) == 0)
+#endif
+
 /* 0 wraps above the range. */
 static int is_price(uint32_t price, uint32_t tick)
 {
-    return price - 1 < LARGEST_PRICE && price % tick == 0;
+    return price - 1 < LARGEST_PRICE && IS_ON_TICK(price, tick);
 }
 
 static int is_amount(uint32_t product, uint32_t amount)
@@ -26,7 +35,7 @@ static int is_amount(uint32_t product, uint32_t amount)
     return amount >= FLOOR[product] && amount <= LARGEST_AMOUNT && amount % STEP[product] == 0;
 }
 
-uint32_t bare_in_c(uint32_t product, uint32_t size, uint32_t settlement, uint32_t amount,
+uint32_t BARE_IN_C(uint32_t product, uint32_t size, uint32_t settlement, uint32_t amount,
                    uint32_t spot, uint32_t price)
 {
     if (product >= PRODUCTS || size >= SIZES || TICK[product][size] == 0)

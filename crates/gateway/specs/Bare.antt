@@ -1,6 +1,6 @@
 -- The bare check: a price against a settlement and an amount, with no book.
 use Prim.Native.Nat.{ℕ}
-use mathlib.Core.Bool.{Bool, not, _&&_, cond}
+use mathlib.Core.Bool.{not, _&&_, cond}
 use lib.Dec.{eqb}
 use Rattle.grain.specs.Products.{isOffered}
 use Rattle.grain.specs.Prices.{isPrice, isSettlement}

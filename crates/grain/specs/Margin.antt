@@ -1,6 +1,6 @@
 -- What the margin group's calls answer.
 use Prim.Native.Nat.{ℕ}
-use mathlib.Core.Bool.{Bool, not, cond}
+use mathlib.Core.Bool.{not, cond}
 use mathlib.Core.List.{List}
 use lib.Dec.{eqb}
 use lib.ListN.{length}

@@ -1,5 +1,5 @@
 // The product table. Each column is a constant array that one function reads; no other function touches it.
-// What is not exported by lib.rt asks for a product below 8.
+// `step` and `floor` are `pub` for amounts.rt, not exported: they ask for a product below 8.
 ghost use mathlib.Core.Path.{_≡_};
 ghost use Prim.Native.Nat.{_<_};
 ghost use Rattle.grain.specs.Products.{isProduct, stepOf, floorOf, firstOf, tickOf, isTraded};

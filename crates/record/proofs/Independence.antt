@@ -1,16 +1,15 @@
 -- A group's part of the Record depends on the openings, the ends and that group's sheets alone.
 use Prim.Native.Nat.{ℕ, zero, suc}
-use mathlib.Core.Path.{_≡_, refl, ap, ap₂, sym, _∙_}
-use mathlib.Core.Bool.{Bool, true, false, not}
+use mathlib.Core.Path.{_≡_, refl, ap, ap₂, _∙_}
+use mathlib.Core.Bool.{Bool, true, false}
 use mathlib.Core.List.{List, [], _∷_, map}
-use mathlib.Core.Option.{Option, some}
 use lib.ListN.{getD}
-use Rattle.record.specs.State.{Day, Sheet, Product, Group, Common, Record, noGroup, groupTable, groupAt}
+use Rattle.record.specs.State.{Day, Product, Group, Common, Record, noGroup, groupTable, groupAt}
 use Rattle.record.specs.Founding.{Start, foundProduct, foundGroup, founded}
 use Rattle.record.specs.Opening.{openGroup, openProduct}
 use Rattle.record.specs.End.{endGroup, endProduct}
 use Rattle.record.specs.Record.{Call}
-use Rattle.record.specs.History.{Filed, KeptDay, Entry, aDay, sheetAmong, Milestone, dayOpened, milestone, openingsAndEnds, sheetsOn, sheetsOf, productsOf, SameFor}
+use Rattle.record.specs.History.{Filed, KeptDay, Entry, aDay, sheetAmong, openingsAndEnds, sheetsOf, productsOf, SameFor}
 use Rattle.record.specs.Replay.{commonAfter, holding, holdingGroup, endedIf, groupAfter, replay}
 use Rattle.record.specs.Theorems.{after, historyOf}
 use Rattle.record.proofs.Maps.{map-map, map-same}

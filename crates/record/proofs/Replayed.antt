@@ -1,8 +1,8 @@
 -- The Record after a list of calls is the replay of its history.
 use Prim.Native.Nat.{ℕ}
-use mathlib.Core.Path.{_≡_, refl, ap, ap₂, sym, _∙_}
+use mathlib.Core.Path.{_≡_, refl, ap, sym, _∙_}
 use mathlib.Core.Bool.{Bool, true, false, not, cond}
-use mathlib.Core.List.{List, [], _∷_, map}
+use mathlib.Core.List.{List, [], _∷_}
 use mathlib.Core.Option.{Option, some, none}
 use lib.Dec.{eqb}
 use borrow.Author.Tests.{not-false}
@@ -13,8 +13,8 @@ use Rattle.record.specs.Opening.{openGroup}
 use Rattle.record.specs.Sheet.{contracts, fileProduct, fileGroup}
 use Rattle.record.specs.Sound.{isSound}
 use Rattle.record.specs.Record.{Call, opening, sheet, end, check, tests, refusal, next, nextCommon, nextGroup, step, stateBy, stateAfter}
-use Rattle.record.specs.History.{Filed, KeptDay, Entry, aDay, add, sheetAmong, kept}
-use Rattle.record.specs.Replay.{commonAfter, over, holding, holdingGroup, endedIf, groupAfter, replay}
+use Rattle.record.specs.History.{Filed, Entry, aDay, add, sheetAmong}
+use Rattle.record.specs.Replay.{commonAfter, over, holding, holdingGroup, groupAfter, replay}
 use Rattle.record.specs.Theorems.{after, historyOf}
 use Rattle.record.proofs.Maps.{map-map, map-same}
 use Rattle.record.proofs.Checks.{check-same}

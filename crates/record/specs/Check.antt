@@ -1,6 +1,6 @@
 -- A price check on an open day.
 use Prim.Native.Nat.{ℕ}
-use mathlib.Core.Bool.{Bool, not, cond}
+use mathlib.Core.Bool.{not, cond}
 use mathlib.Core.List.{List, [], _∷_}
 use mathlib.Core.Option.{Option, none}
 use lib.Dec.{ltb}

@@ -1,5 +1,4 @@
 -- The Record's contents from a history alone: each day is opened, gets its sheets at once, and is ended.
-use Prim.Native.Nat.{ℕ}
 use mathlib.Core.Bool.{Bool, true, false, not}
 use mathlib.Core.List.{List, [], _∷_, map}
 use mathlib.Core.Option.{Option, some, none}

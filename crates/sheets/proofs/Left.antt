@@ -1,5 +1,5 @@
 -- A loop over a sheet's contracts: what is left of them at i, one contract more, and none.
-use Prim.Native.Nat.{ℕ, suc, _+_, _<_, _≤_, min}
+use Prim.Native.Nat.{ℕ, suc, _+_, _<_, _≤_}
 use mathlib.Core.Path.{_≡_, refl, sym, _∙_, ap}
 use mathlib.Core.Bool.{Bool, true, false, _&&_}
 use mathlib.Core.List.{List, [], _∷_, map}

@@ -1,6 +1,6 @@
 -- What a sheet of the book means: the Record's contracts within its count.
 use Prim.Native.Nat.{ℕ}
-use mathlib.Core.Bool.{Bool, cond}
+use mathlib.Core.Bool.{cond}
 use mathlib.Core.List.{List, map}
 use mathlib.Core.Option.{Option, some, none}
 use lib.Dec.{leb, eqb}

@@ -1,5 +1,4 @@
 use borrow.Author.Needs.{needs}
-use native.Mathlib.Omega.{arith}
 use mathlib.Core.Path.{sym, _∙_}
 use Rattle.record.specs.State.{settlementOn}
 use Rattle.sheets.specs.Sheets.{contractsOf}

@@ -1,5 +1,3 @@
-use borrow.Author.Needs.{needs}
-use native.Mathlib.Omega.{arith}
 use borrow.Author.Tests.{eq-eqb, ne-eqb}
 use Rattle.record.specs.Sheet.{isMisshapen}
 use Rattle.sheets.proofs.filing.is_misshapen.Statement.{statement}

@@ -1,5 +1,3 @@
-use borrow.Author.Needs.{needs}
-use native.Mathlib.Omega.{arith}
 use mathlib.Core.Path.{refl}
 use Rattle.sheets.specs.Sheets.{sheetIn}
 use Rattle.sheets.proofs.filing.no_sheet.Statement.{statement}

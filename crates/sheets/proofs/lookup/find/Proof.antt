@@ -1,11 +1,11 @@
 use borrow.Author.Needs.{needs}
 use native.Mathlib.Omega.{arith}
 use Prim.Native.Nat.{_-_, _≤_}
-use mathlib.Core.Path.{_≡_, sym, _∙_, ap}
+use mathlib.Core.Path.{_≡_, _∙_}
 use borrow.Author.Tests.{eq-eqb, ne-eqb}
 use lib.ListN.{drop}
 use Rattle.record.specs.State.{settlementOn}
-use Rattle.sheets.specs.Sheets.{contractsOf, listedAs}
+use Rattle.sheets.specs.Sheets.{contractsOf}
 use Rattle.sheets.proofs.Left.{mapped, left-next, left-end}
 use Rattle.sheets.proofs.lookup.find.Statement.{statement}
 use Rattle.sheets.proofs.lookup.find.Tie as tie

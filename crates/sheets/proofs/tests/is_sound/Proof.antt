@@ -1,7 +1,6 @@
 use borrow.Author.Needs.{needs}
-use native.Mathlib.Omega.{arith}
 use mathlib.Core.Path.{sym, _∙_}
-use borrow.Author.Tests.{lt-leb, le-leb, eq-eqb, ne-eqb, not-true, not-false}
+use borrow.Author.Tests.{lt-leb, eq-eqb, ne-eqb, not-true, not-false}
 use Rattle.grain.specs.Lists.{_and_}
 use Rattle.record.specs.Sound.{isSoundSheet}
 use Rattle.sheets.specs.Sheets.{contractsOf, sheetIn}
