@@ -1,4 +1,5 @@
 // What the Record and a book both speak of. The Record itself is definitions and theorems: specs/ and proofs/.
+pub mod refusals;
 
 // A date with its left: the business days of its month after it.
 pub struct Day {
