@@ -39,7 +39,8 @@ pub fn lacks_contract(today: u32, left: u32, last: Sheet, s: Sheet) -> bool
     false
 }
 
-fn distance(a: u32, b: u32) -> u32
+// How far two settlements are apart, up or down.
+pub fn distance(a: u32, b: u32) -> u32
     ensures { λ r. ⌜ r ≡ apart a b ⌝ }
 {
     if a < b {

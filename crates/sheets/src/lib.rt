@@ -7,6 +7,7 @@ mod filing;
 mod lookup;
 mod tests;
 
+pub use changes::distance;
 pub use changes::is_beyond;
 pub use changes::lacks_contract;
 pub use filing::is_misshapen;
