@@ -1,0 +1,36 @@
+-- The group of a product, by the table; its level, and the limit that it gives.
+use Prim.Native.Nat.{ℕ, _<_}
+use mathlib.Core.Path.{_≡_, refl, _∙_, ap}
+use mathlib.Core.List.{List, [], _∷_}
+use lib.Dec.{ltb, eqb}
+use lib.ListN.{getD}
+use borrow.Author.Tests.{ltb-true, eqb-true}
+use Rattle.grain.proofs.Below.{below}
+use Rattle.record.specs.State.{Level, Group, groupTable, groupOf, groupAt, productIn, limitAt, limitIn}
+use Rattle.book.specs.declared.Book.{Book}
+use Rattle.book.specs.Book.{limitIn as bookLimit, standingIn, levelOf, viewProduct, viewGroup, view}
+use Rattle.book.proofs.Views.{group-is, product-is}
+
+-- the group of each product in one list
+abbrev pub groupNumbers : List ℕ
+groupNumbers = 0 ∷ 1 ∷ 1 ∷ 1 ∷ 2 ∷ 3 ∷ 4 ∷ 5 ∷ []
+
+pub group-number : (p : ℕ) → p < 8 → getD groupNumbers p 0 ≡ groupOf p
+unfolding groupTable
+group-number p l = eqb-true _ _ (below 8 (λ (p : ℕ). eqb (getD groupNumbers p 0) (groupOf p)) refl p l)
+
+pub group-small : (p : ℕ) → p < 8 → groupOf p < 6
+unfolding groupTable
+group-small p l = ltb-true _ _ (below 8 (λ (p : ℕ). ltb (groupOf p) 6) refl p l)
+
+pub level-is : (b : Book) (p : ℕ) → p < 8 → groupAt (view b) (groupOf p) .level ≡ levelOf (standingIn b (groupOf p) .expanded)
+unfolding viewGroup
+level-is b p l = ap (λ (g : Group). g .level) (group-is b p l)
+
+pub limit-is : (b : Book) (p : ℕ) → p < 8
+    → limitIn (groupAt (view b) (groupOf p)) p
+    ≡ limitAt (levelOf (standingIn b (groupOf p) .expanded)) (bookLimit b p .initial) (bookLimit b p .expanded)
+unfolding viewProduct
+limit-is b p l =
+    ap (λ (v : Level). limitAt v (productIn (groupAt (view b) (groupOf p)) p .initialLimit) (productIn (groupAt (view b) (groupOf p)) p .expandedLimit)) (level-is b p l)
+    ∙ ap (λ (q : Rattle.record.specs.State.Product). limitAt (levelOf (standingIn b (groupOf p) .expanded)) (q .initialLimit) (q .expandedLimit)) (product-is b p l)

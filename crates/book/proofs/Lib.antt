@@ -1,0 +1,14 @@
+pub mod Filled
+pub mod Numbers
+pub mod Either
+pub mod Everies
+pub mod Shown
+pub mod SoundFacts
+pub mod SheetsIn
+pub mod Calendars
+pub mod Founded
+pub mod Unfounded
+pub mod Views
+pub mod Groups
+pub mod Numbered
+pub mod Steps

@@ -1,0 +1,33 @@
+use borrow.Author.Needs.{needs}
+use mathlib.Core.Path.{sym, _∙_, _≡_}
+use mathlib.Core.Bool.{true, false, Bool}
+use Rattle.book.proofs.Calendars.{true-date, no-date, dated}
+use Rattle.book.proofs.calendar.contract_month.Statement.{statement}
+use Rattle.book.proofs.calendar.contract_month.Tie as tie
+
+calendar-of-requires : tie.Need-calendar-of-requires
+calendar-of-requires c κs = search needs
+
+enum-known-month : tie.Need-enum-known-month
+enum-known-month c = search needs
+
+enum-told : tie.Need-enum-told
+enum-told c = search needs
+
+returns : tie.Need-returns
+returns c =
+    let k = c .before .before in
+    let d = k .before .args .d in
+    let no = no-date (d .year) (d .month) (d .day) (sym (k .calendar-of .ensures) ∙ c .enum-told .given .1) in
+    let z : _≡_ {A = Bool} false true = sym no ∙ true-date d (k .before .pre) in
+    cc
+
+returns-2 : tie.Need-returns-2
+returns-2 c =
+    let k = c .before .before .before in
+    let d = k .before .args .d in
+    dated (d .year) (d .month) (d .day) _ _ _ (sym (k .calendar-of .ensures) ∙ c .before .month .given .1) .falls
+
+pub contract-month-spec : {M : Type 1} → statement M
+contract-month-spec =
+    tie.close (tie.spec calendar-of-requires enum-known-month enum-told returns returns-2)

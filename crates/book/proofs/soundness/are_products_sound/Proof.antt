@@ -1,0 +1,66 @@
+use borrow.Author.Needs.{needs}
+use borrow.Author.Tests.{not-true, not-false}
+use Rattle.record.specs.Sound.{isSoundProduct}
+use Rattle.book.specs.Book.{viewProduct}
+use Prim.Native.Nat.{ℕ, _-_, _≤_}
+use mathlib.Core.Path.{_≡_, sym, _∙_}
+use mathlib.Core.Bool.{Bool, true, false}
+use lib.ListN.{drop}
+use Rattle.grain.specs.Lists.{every}
+use Rattle.book.specs.Soundness.{eight}
+use Rattle.book.proofs.Numbers.{eight-counts, one-fails, one-goes-on, none-left}
+use Rattle.book.proofs.soundness.are_products_sound.Statement.{statement}
+use Rattle.book.proofs.soundness.are_products_sound.Tie as tie
+
+abbrev Inv-loop : tie.InvT-loop
+Inv-loop b p₀ p =
+    (p ≤ 8) × (every (λ p. isSoundProduct (viewProduct b p)) eight ≡ every (λ p. isSoundProduct (viewProduct b p)) (drop p eight))
+
+abbrev μ-loop : tie.MeasureT-loop
+μ-loop b p₀ p = 8 - p
+
+loop-holds : tie.Need-loop-holds Inv-loop μ-loop
+loop-holds c = search needs
+
+is-sound-product-requires : tie.Need-is-sound-product-requires Inv-loop μ-loop
+is-sound-product-requires c κs = search needs
+
+returns : tie.Need-returns Inv-loop μ-loop
+returns c =
+    let k = c .before .before .before in
+    let test : ℕ → Bool = λ p. isSoundProduct (viewProduct (k .before .args .b) p) in
+    let no : test (k .loop .p) ≡ false = sym (c .before .is-sound-product .ensures) ∙ not-true _ (c .if1 .taken) in
+    sym (one-fails test 8 eight eight-counts (k .loop .p) (search needs) no (k .loop .inv .1))
+
+add-p : tie.Need-add-p Inv-loop μ-loop
+add-p c = search needs
+
+loop-less : tie.Need-loop-less Inv-loop μ-loop
+loop-less c = search needs
+
+loop-again : tie.Need-loop-again Inv-loop μ-loop
+loop-again c =
+    let k = c .before .before .before in
+    let test : ℕ → Bool = λ p. isSoundProduct (viewProduct (k .before .args .b) p) in
+    let yes : test (k .loop .p) ≡ true = sym (c .before .is-sound-product .ensures) ∙ not-false _ (c .if1 .left) in
+    (search needs, one-goes-on test 8 eight eight-counts (k .loop .p) (search needs) yes (k .loop .inv .1))
+
+returns-2 : tie.Need-returns-2 Inv-loop μ-loop
+returns-2 c =
+    let k = c .before in
+    let test : ℕ → Bool = λ p. isSoundProduct (viewProduct (k .before .args .b) p) in
+    sym (none-left test 8 eight eight-counts (k .loop .p) (search needs) (k .loop .inv .1))
+
+pub are-products-sound-spec : {M : Type 1} → statement M
+are-products-sound-spec =
+    tie.close
+    (tie.spec
+    Inv-loop
+    μ-loop
+    loop-holds
+    is-sound-product-requires
+    returns
+    add-p
+    loop-less
+    loop-again
+    returns-2)

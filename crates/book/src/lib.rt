@@ -1,0 +1,45 @@
+// The book: what it holds, what that means as a Record, whether it is sound, and a fresh one.
+use record::Day;
+use sheets::Sheet;
+use windows::Windows;
+
+mod calendar;
+mod founding;
+mod limits;
+mod soundness;
+
+pub use calendar::contract_month;
+pub use founding::Founding;
+pub use founding::found;
+pub use limits::group_of;
+pub use limits::limit_of;
+pub use soundness::are_all_in;
+pub use soundness::is_no_day;
+pub use soundness::is_sound;
+pub use soundness::is_true_day;
+
+// A product's limits: I and E of the rule.
+pub struct Limit {
+    pub initial: u32,
+    pub expanded: u32,
+}
+
+// A group's level, and the rule's mark: held on the ended day before, with a move of exactly E.
+pub struct Standing {
+    pub expanded: bool,
+    pub marked: bool,
+}
+
+pub struct Book {
+    pub limits: [Limit; 8],
+    pub standings: [Standing; 6],
+    pub windows: Windows,
+    // The sheets that are in on the open day.
+    pub today: [Sheet; 8],
+    // The sheets of the last ended day.
+    pub last: [Sheet; 8],
+    // The last opened day; all four fields are 0 where there is none.
+    pub day: Day,
+    // A day is open.
+    pub trading: bool,
+}

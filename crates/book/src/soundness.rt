@@ -1,0 +1,194 @@
+// Whether a book is sound: every field in its range, and the parts in agreement.
+ghost use mathlib.Core.Path.{_≡_};
+ghost use mathlib.Core.Bool.{not, _||_};
+ghost use mathlib.Core.List.{List};
+ghost use Prim.Native.Nat.{ℕ, _<_};
+ghost use lib.Dec.{eqb};
+ghost use lib.ListN.{getD};
+ghost use Rattle.grain.specs.Lists.{_and_, every};
+ghost use Rattle.grain.specs.Amounts.{expandedOf, isFitAmount};
+ghost use Rattle.record.specs.Choices.{isSome};
+ghost use Rattle.record.specs.Opening.{isTrueDay};
+ghost use Rattle.record.specs.Sound.{isSoundProduct, isSoundCommon, isSound};
+ghost use Rattle.sheets.specs.Sheets.{sheetIn};
+ghost use Rattle.book.specs.Book.{noSheet, noStanding, isNoDay, openedOf, viewProduct, view};
+ghost use Rattle.book.specs.Soundness.{eight, six, isMarkSound};
+use crate::Book;
+use crate::Limit;
+use crate::Standing;
+use grain::Calendar;
+use record::Day;
+use sheets::Sheet;
+
+pub fn is_no_day(d: Day) -> bool
+    ensures { λ r. ⌜ r ≡ isNoDay d ⌝ }
+{
+    if d.year != 0 {
+        return false;
+    }
+    if d.month != 0 {
+        return false;
+    }
+    if d.day != 0 {
+        return false;
+    }
+    d.left == 0
+}
+
+// A date, with left at most the days remaining in its month.
+pub fn is_true_day(d: Day) -> bool
+    ensures { λ r. ⌜ r ≡ isTrueDay d ⌝ }
+{
+    let Calendar::On {
+        month: _,
+        season: _,
+        remaining,
+    } = grain::calendar_of(d.year, d.month, d.day)
+    else {
+        return false;
+    };
+    d.left <= remaining
+}
+
+// A date where a day is open.
+fn is_sound_date(d: Day, trading: bool) -> bool
+    ensures { λ r. ⌜ r ≡ isSoundCommon (record { opened = openedOf d; isOpen = trading }) ⌝ }
+{
+    if is_no_day(d) {
+        return !trading;
+    }
+    is_true_day(d)
+}
+
+fn is_sound_limit(product: u32, limit: Limit) -> bool
+    ensures { λ r. ⌜ r ≡ (isFitAmount product (limit .initial) and eqb (limit .expanded) (expandedOf product (limit .initial))) ⌝ }
+{
+    if !grain::is_fit_amount(product, limit.initial) {
+        return false;
+    }
+    limit.expanded == grain::expanded(product, limit.initial)
+}
+
+fn is_sound_product(b: Book, p: usize) -> bool
+    requires { ⌜ p < 8 ⌝ }
+    ensures { λ r. ⌜ r ≡ isSoundProduct (viewProduct b p) ⌝ }
+{
+    let product = p as u32;
+    let limit = b.limits[p];
+    if !is_sound_limit(product, limit) {
+        return false;
+    }
+    let w = b.windows;
+    if !windows::is_sound(w, p) {
+        return false;
+    }
+    let today = b.today[p];
+    if !sheets::is_sound(product, today) {
+        return false;
+    }
+    let last = b.last[p];
+    sheets::is_sound(product, last)
+}
+
+fn are_products_sound(b: Book) -> bool
+    ensures { λ r. ⌜ r ≡ every (λ p. isSoundProduct (viewProduct b p)) eight ⌝ }
+{
+    for p in 0..8usize {
+        if !is_sound_product(b, p) {
+            return false;
+        }
+    }
+    true
+}
+
+// A mark only on an expanded group.
+fn is_mark_sound(s: Standing) -> bool
+    ensures { λ r. ⌜ r ≡ isMarkSound s ⌝ }
+{
+    if !s.marked {
+        return true;
+    }
+    s.expanded
+}
+
+fn are_marks_sound(standings: [Standing; 6]) -> bool
+    ensures { λ r. ⌜ r ≡ every (λ g. isMarkSound (getD standings g noStanding)) six ⌝ }
+{
+    for g in 0..6usize {
+        let s = standings[g];
+        if !is_mark_sound(s) {
+            return false;
+        }
+    }
+    true
+}
+
+fn are_all_missing(sheets: [Sheet; 8]) -> bool
+    ensures { λ r. ⌜ r ≡ every (λ p. not (isSome (sheetIn (getD sheets p noSheet)))) eight ⌝ }
+{
+    for p in 0..8usize {
+        let s = sheets[p];
+        if s.len != 0 {
+            return false;
+        }
+    }
+    true
+}
+
+// The eight sheets are there.
+pub fn are_all_in(sheets: [Sheet; 8]) -> bool
+    ensures { λ r. ⌜ r ≡ every (λ p. isSome (sheetIn (getD sheets p noSheet))) eight ⌝ }
+{
+    for p in 0..8usize {
+        let s = sheets[p];
+        if s.len == 0 {
+            return false;
+        }
+    }
+    true
+}
+
+// No sheet in while no day is open.
+fn is_phase_sound(trading: bool, today: [Sheet; 8]) -> bool
+    ensures { λ r. ⌜ r ≡ (trading || every (λ p. not (isSome (sheetIn (getD today p noSheet)))) eight) ⌝ }
+{
+    if trading {
+        return true;
+    }
+    are_all_missing(today)
+}
+
+// The last ended sheets are all there, with a date, or none is.
+fn is_last_sound(d: Day, last: [Sheet; 8]) -> bool
+    ensures { λ r. ⌜ r ≡ ((isSome (openedOf d) and every (λ p. isSome (sheetIn (getD last p noSheet))) eight) || every (λ p. not (isSome (sheetIn (getD last p noSheet)))) eight) ⌝ }
+{
+    if are_all_missing(last) {
+        return true;
+    }
+    if is_no_day(d) {
+        return false;
+    }
+    are_all_in(last)
+}
+
+pub fn is_sound(b: Book) -> bool
+    ensures { λ r. ⌜ r ≡ isSound (view b) ⌝ }
+{
+    let day = b.day;
+    if !is_sound_date(day, b.trading) {
+        return false;
+    }
+    let standings = b.standings;
+    if !are_marks_sound(standings) {
+        return false;
+    }
+    if !are_products_sound(b) {
+        return false;
+    }
+    let today = b.today;
+    if !is_phase_sound(b.trading, today) {
+        return false;
+    }
+    let last = b.last;
+    is_last_sound(day, last)
+}
