@@ -1,0 +1,167 @@
+use borrow.Author.Needs.{needs}
+use native.Mathlib.Omega.{arith}
+use Prim.Native.Nat.{ℕ, _-_, _^_, _≤_, _<_}
+use mathlib.Core.Path.{_≡_, refl, sym, _∙_, ap}
+use mathlib.Core.Bool.{false}
+use borrow.Author.Count.{below-more}
+use Rattle.lead.specs.declared.Found.the-variants.{Nobody}
+use Rattle.lead.specs.Lead.{foundAs, productsFrom}
+use Rattle.lead.proofs.Searched.{isMet, Clear, ClearAt, clear-spot, clear-next, none-leads, this-leads}
+use Rattle.lead.proofs.Nexts.{next-after}
+use Rattle.lead.proofs.leading.Statement.{statement}
+use Rattle.lead.proofs.leading.Tie as tie
+use Rattle.lead.proofs.leading.Reads as reads
+use Rattle.lead.proofs.leading.Lts as lts
+use Rattle.lead.proofs.months.next_month.Reads as next-month-reads
+use Rattle.lead.proofs.moves.meets_in.Reads as meets-in-reads
+
+abbrev Inv-loop : tie.InvT-loop
+Inv-loop today left condition lo hi b sheets month found₀ m p₀ found p =
+    (lo ≤ p) × (p ≤ hi) × (found ≡ Nobody) × ClearAt (isMet b today left condition) lo p m
+
+abbrev μ-loop : tie.MeasureT-loop
+μ-loop today left condition lo hi b sheets month found₀ m p₀ found p = hi - p
+
+abbrev Inv-search : tie.InvT-search
+Inv-search today left condition lo hi b sheets month₀ found₀ month found =
+    (found ≡ Nobody) × Clear (isMet b today left condition) lo hi month
+
+abbrev μ-search : tie.MeasureT-search
+μ-search today left condition lo hi b sheets month₀ found₀ month found = 2 ^ 32 - month
+
+search-holds : tie.Need-search-holds Inv-loop μ-loop Inv-search μ-search
+search-holds c =
+    let s = c .before in
+    let a = s .args in
+    (refl, clear-spot (a .t1) (a .today) (a .left) (a .condition) (a .lo) (a .hi) (s .pre .0) (s .pre .1) (s .pre .2))
+
+next-month-requires : tie.Need-next-month-requires Inv-loop μ-loop Inv-search μ-search
+next-month-requires c κs =
+    let s = c .before .before in
+    (s .pre .0, s .pre .1, s .pre .2 .today)
+
+loop-holds : tie.Need-loop-holds Inv-loop μ-loop Inv-search μ-search
+loop-holds c =
+    (omega arith, omega arith, c .before .before .search .inv .0, λ q k l. absurd (omega arith))
+
+mul-t : tie.Need-mul-t Inv-loop μ-loop Inv-search μ-search
+mul-t c = search needs
+
+element-copy-out-t : tie.Need-element-copy-out-t Inv-loop μ-loop Inv-search μ-search
+element-copy-out-t c = search needs
+
+mul-l : tie.Need-mul-l Inv-loop μ-loop Inv-search μ-search
+mul-l c = search needs
+
+element-copy-out-l : tie.Need-element-copy-out-l Inv-loop μ-loop Inv-search μ-search
+element-copy-out-l c = search needs
+
+mul-limit : tie.Need-mul-limit Inv-loop μ-loop Inv-search μ-search
+mul-limit c = search needs
+
+element-copy-out-limit : tie.Need-element-copy-out-limit Inv-loop μ-loop Inv-search μ-search
+element-copy-out-limit c = search needs
+
+cast-meets-in : tie.Need-cast-meets-in Inv-loop μ-loop Inv-search μ-search
+cast-meets-in c = search needs
+
+meets-in-requires : tie.Need-meets-in-requires Inv-loop μ-loop Inv-search μ-search
+meets-in-requires c κs =
+    let sound = c .before .before .before .before .before .before .before .before .before .pre .2 in
+    (sound .today _ (omega arith), sound .last _ (omega arith))
+
+cast-t29 : tie.Need-cast-t29 Inv-loop μ-loop Inv-search μ-search
+cast-t29 c = search needs
+
+add-p : tie.Need-add-p Inv-loop μ-loop Inv-search μ-search
+add-p c = search needs
+
+loop-less : tie.Need-loop-less Inv-loop μ-loop Inv-search μ-search
+loop-less c = search needs
+
+loop-again : tie.Need-loop-again Inv-loop μ-loop Inv-search μ-search
+unfolding isMet
+loop-again c =
+    let k = c .before .before .before .before .before .before in
+    let n = k .before .before in
+    let a = n .before .before .before .args in (
+      omega arith,
+      omega arith,
+      k .loop .inv .2,
+      λ q l h.
+          below-more (λ (x : ℕ). a .lo ≤ x → isMet (a .t1) (a .today) (a .left) (a .condition) x (n .next-month .result) ≡ false) (k .loop .p)
+          (λ x i j. k .loop .inv .3 x j i) (λ _. sym (c .before .meets-in .ensures) ∙ c .if2 .left) q h l,
+    )
+
+search-less : tie.Need-search-less Inv-loop μ-loop Inv-search μ-search
+search-less c =
+    let n = c .before .before .before in
+    let a = n .before .before .before .args in
+    let month = n .before .search .month in
+    let late : month < n .next-month .result =
+    rw (n .next-month .ensures)
+    (next-after (a .t1 .today) month 0 (productsFrom (a .lo) (a .hi - a .lo)) (λ z. absurd (omega arith))
+    (rw (← n .next-month .ensures) (omega arith))) in
+    omega (arith, n .next-month .ok)
+
+search-again : tie.Need-search-again Inv-loop μ-loop Inv-search μ-search
+search-again c =
+    let n = c .before .before .before in
+    let s = n .before .before .before in
+    let a = s .args in
+    let k = c .before .loop in (
+      k .inv .2,
+      clear-next (a .t1) (a .today) (a .left) (a .condition) (a .lo) (a .hi) (s .pre .0) (s .pre .1) (s .pre .2) _ _
+          (n .next-month .ensures) (n .before .search .inv .1) (λ q l h. k .inv .3 q l (omega arith)),
+    )
+
+returns : tie.Need-returns Inv-loop μ-loop Inv-search μ-search
+returns c =
+    let n = c .before in
+    let s = n .before .before .before in
+    let a = s .args in
+    n .before .search .inv .0
+    ∙ sym
+    (ap foundAs
+    (none-leads (a .t1) (a .today) (a .left) (a .condition) (a .lo) (a .hi) (s .pre .0) (s .pre .1) (s .pre .2) _ _
+    (n .next-month .ensures) (c .if1 .taken) (n .before .search .inv .1)))
+
+returns-2 : tie.Need-returns-2 Inv-loop μ-loop Inv-search μ-search
+unfolding isMet
+returns-2 c =
+    let k = c .before .before .before .before .before .before in
+    let n = k .before .before in
+    let s = n .before .before .before in
+    let a = s .args in
+    sym
+    (ap foundAs
+    (this-leads (a .t1) (a .today) (a .left) (a .condition) (a .lo) (a .hi) (s .pre .0) (s .pre .1) (s .pre .2) _ _ (k .loop .p)
+    (n .next-month .ensures) (n .before .search .inv .1) (k .loop .inv .0) (omega arith) (k .loop .inv .3) (sym (c .before .meets-in .ensures) ∙ c .if2 .taken)))
+
+pub leading-spec : {M : Type 1} → statement M
+leading-spec =
+    tie.close
+    (tie.spec
+    Inv-loop
+    μ-loop
+    Inv-search
+    μ-search
+    search-holds
+    next-month-requires
+    loop-holds
+    mul-t
+    element-copy-out-t
+    mul-l
+    element-copy-out-l
+    mul-limit
+    element-copy-out-limit
+    cast-meets-in
+    meets-in-requires
+    cast-t29
+    add-p
+    loop-less
+    loop-again
+    search-less
+    search-again
+    returns
+    returns-2)

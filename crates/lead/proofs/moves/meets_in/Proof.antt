@@ -1,0 +1,148 @@
+use borrow.Author.Needs.{needs}
+use mathlib.Core.Bool.{Bool, false}
+use mathlib.Core.Path.{_≡_, sym, _∙_}
+use lib.Dec.{ltb}
+use borrow.Author.Tests.{lt-ltb, le-ltb}
+use Rattle.grain.specs.Spot.{isSpot}
+use Rattle.grain.specs.Products.{firstOf}
+use Rattle.record.specs.State.{settlementOn}
+use Rattle.record.specs.End.{Move}
+use Rattle.sheets.specs.Sheets.{contractsOf}
+use Rattle.sheets.proofs.Lookups.{is-none, is-some}
+use Rattle.lead.specs.Search.{countEarlier, meetsOn}
+use Rattle.lead.proofs.moves.meets_in.Statement.{statement}
+use Rattle.lead.proofs.moves.meets_in.Tie as tie
+use Rattle.lead.proofs.moves.meets_in.Reads as reads
+use Rattle.lead.proofs.moves.meets_in.Lts as lts
+use Rattle.grain.proofs.first_contracts.Reads as first-contracts-reads
+use Rattle.grain.proofs.is_spot.Reads as is-spot-reads
+use Rattle.lead.proofs.moves.count_earlier.Reads as count-earlier-reads
+use Rattle.sheets.proofs.distance.Reads as distance-reads
+use Rattle.sheets.proofs.find.Reads as find-reads
+
+not-spot : (k : tie.After-find) → let a = k .before .before .before .args in isSpot (a .month) (a .today) (a .left) ≡ false
+not-spot k = sym (k .before .before .is-spot .ensures) ∙ k .before .if1 .left
+
+-- on both sheets and not spot: the contract has a move
+met : (k : tie.After-distance) (g : Move → Bool)
+    → let a = k .before .before .before .before .before .before .before .before .before .before .before .args in
+    meetsOn g (λ month. isSpot month (a .today) (a .left)) (a .product) (a .limit .initial) (a .limit .expanded)
+    (contractsOf (a .current)) (contractsOf (a .last)) (a .month)
+    ≡ g (record {
+      month = a .month;
+      product = a .product;
+      isFirst = ltb (countEarlier (λ month. isSpot month (a .today) (a .left)) (a .month) (contractsOf (a .current))) (firstOf (a .product));
+      size = k .distance .result;
+      initialLimit = a .limit .initial;
+      expandedLimit = a .limit .expanded;
+    })
+unfolding meetsOn
+met k g =
+    let h = k .before .before .before .before in
+    let f = h .before .before .before .before in
+    let a = f .before .before .before .args in
+    rw
+    (not-spot f, is-some (settlementOn (contractsOf (a .current)) (a .month)) _ (sym (f .find .ensures) ∙ h .before .before .x .given .1), is-some (settlementOn (contractsOf (a .last)) (a .month)) _ (sym (h .find2 .ensures) ∙ k .before .before .y .given .1), k .distance .ensures)
+
+is-spot-requires : tie.Need-is-spot-requires
+is-spot-requires c κs = search needs
+
+returns : tie.Need-returns
+unfolding meetsOn
+returns c = rw (sym (c .before .is-spot .ensures) ∙ c .if1 .taken)
+
+find-requires : tie.Need-find-requires
+find-requires c κs = search needs
+
+enum-known-x : tie.Need-enum-known-x
+enum-known-x c = search needs
+
+enum-told : tie.Need-enum-told
+enum-told c = search needs
+
+returns-2 : tie.Need-returns-2
+unfolding meetsOn
+returns-2 c =
+    let k = c .before .before in
+    let a = k .before .before .before .args in
+    rw
+    (not-spot k, is-none (settlementOn (contractsOf (a .current)) (a .month)) (sym (k .find .ensures) ∙ c .enum-told .given .1))
+
+find-requires-2 : tie.Need-find-requires-2
+find-requires-2 c κs = search needs
+
+enum-known-y : tie.Need-enum-known-y
+enum-known-y c = search needs
+
+enum-told-2 : tie.Need-enum-told-2
+enum-told-2 c = search needs
+
+returns-3 : tie.Need-returns-3
+unfolding meetsOn
+returns-3 c =
+    let h = c .before .before in
+    let f = h .before .before .before .before in
+    let a = f .before .before .before .args in
+    rw
+    (not-spot f, is-some (settlementOn (contractsOf (a .current)) (a .month)) _ (sym (f .find .ensures) ∙ h .before .before .x .given .1), is-none (settlementOn (contractsOf (a .last)) (a .month)) (sym (h .find2 .ensures) ∙ c .enum-told2 .given .1))
+
+distance-requires : tie.Need-distance-requires
+distance-requires c κs = search needs
+
+enum-told-3 : tie.Need-enum-told-3
+enum-told-3 c = search needs
+
+first-contracts-requires : tie.Need-first-contracts-requires
+first-contracts-requires c κs = search needs
+
+count-earlier-requires : tie.Need-count-earlier-requires
+count-earlier-requires c κs = search needs
+
+returns-4 : tie.Need-returns-4
+returns-4 c =
+    let k = c .before .before .before in
+    rw (met (k .before .before) _, k .enum-told3 .given .1, sym (c .before .count-earlier .ensures), sym (c .before .before .first-contracts .ensures), le-ltb _ _ (c .if2 .taken))
+
+enum-told-4 : tie.Need-enum-told-4
+enum-told-4 c = search needs
+
+enum-told-5 : tie.Need-enum-told-5
+enum-told-5 c = search needs
+
+returns-5 : tie.Need-returns-5
+returns-5 c =
+    let k = c .before .before .before .before in
+    rw (met (k .before .before) _, k .enum-told3 .given .1, sym (c .before .before .count-earlier .ensures), sym (c .before .before .before .first-contracts .ensures), lt-ltb _ _ (c .before .if2 .left))
+
+returns-6 : tie.Need-returns-6
+returns-6 c =
+    rw (met (c .before .before .before) _, c .before .enum-told4 .given .1)
+
+returns-7 : tie.Need-returns-7
+returns-7 c =
+    rw (met (c .before .before .before) _, c .before .enum-told5 .given .1)
+
+pub meets-in-spec : {M : Type 1} → statement M
+meets-in-spec =
+    tie.close
+    (tie.spec
+    is-spot-requires
+    returns
+    find-requires
+    enum-known-x
+    enum-told
+    returns-2
+    find-requires-2
+    enum-known-y
+    enum-told-2
+    returns-3
+    distance-requires
+    enum-told-3
+    first-contracts-requires
+    count-earlier-requires
+    returns-4
+    enum-told-4
+    enum-told-5
+    returns-5
+    returns-6
+    returns-7)

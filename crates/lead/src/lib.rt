@@ -1,0 +1,59 @@
+// The leading contract of a group: of those that meet an event's condition, the nearest month, then the lowest product number.
+// It is exported for the end of a day alone, which has tested that the book is sound.
+ghost use mathlib.Core.Path.{_≡_};
+ghost use Prim.Native.Nat.{_≤_, _-_};
+ghost use Rattle.record.specs.Choices.{keep};
+ghost use Rattle.record.specs.End.{leading as leadOf};
+ghost use Rattle.lead.specs.Lead.{meets, foundAs, productsFrom, movesOf, Readable};
+use book::Book;
+use months::next_month;
+use moves::meets_in;
+use record::Lead;
+
+mod months;
+mod moves;
+
+// What a move has to be for an event.
+pub enum Condition {
+    // Exactly I, within the first N.
+    Trigger,
+    // I or more.
+    Holding,
+    // Exactly E.
+    AtExpanded,
+}
+
+pub enum Found {
+    At(Lead),
+    Nobody,
+}
+
+// The leading contract of products lo to hi, hi not among them; today is the contract month of the date.
+pub fn leading(b: Book, today: u32, left: u32, condition: Condition, lo: usize, hi: usize) -> Found
+    requires { ⌜ (lo ≤ hi) × (hi ≤ 8) × Readable b ⌝ }
+    ensures { λ r. ⌜ r ≡ foundAs (leadOf (keep (meets condition) (movesOf b today left (productsFrom lo (hi - lo))))) ⌝ }
+{
+    let sheets = b.today;
+    let mut month = today;
+    let mut found = Found::Nobody;
+    'search: loop {
+        let m = next_month(sheets, lo, hi, month);
+        if m == 0 {
+            break 'search;
+        }
+        for p in lo..hi {
+            let t = b.today[p];
+            let l = b.last[p];
+            let limit = b.limits[p];
+            if meets_in(condition, p as u32, limit, t, l, m, today, left) {
+                found = Found::At(Lead {
+                    month: m,
+                    product: p as u32,
+                });
+                break 'search;
+            }
+        }
+        month = m;
+    }
+    found
+}
