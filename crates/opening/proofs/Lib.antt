@@ -1,0 +1,5 @@
+pub mod TrueDays
+pub mod Refused
+pub mod FullWindows
+pub mod FilledEight
+pub mod Renewals

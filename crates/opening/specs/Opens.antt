@@ -1,0 +1,42 @@
+-- What an opening promises, whatever the book and the date; and what it does to a product's limits.
+use Prim.Native.Nat.{ℕ}
+use mathlib.Core.Path.{_≡_}
+use mathlib.Core.Bool.{Bool, true, false, _&&_, cond}
+use mathlib.Core.List.{List}
+use mathlib.Core.Option.{some}
+use lib.Dec.{eqb}
+use lib.ListN.{length, replicate}
+use Rattle.grain.specs.Amounts.{expandedOf, seasonOf}
+use Rattle.record.specs.declared.Day.{Day}
+use Rattle.record.specs.Opening.{isTrueDay}
+use Rattle.record.specs.Record.{opening, Answer, opened, refusal}
+use Rattle.book.specs.declared.Limit.{Limit}
+use Rattle.book.specs.declared.Book.{Book}
+use Rattle.book.specs.Book.{isNoDay, view}
+use Rattle.book.specs.Calls.{Steps, answerAs}
+use Rattle.opening.specs.declared.Opened.{Opened}
+
+abbrev pub dated : ℕ → ℕ → ℕ → ℕ → Day
+dated year month day left = record { year = year; month = month; day = day; left = left }
+
+abbrev pub openedAs : Opened → Answer
+openedAs r = answerAs (r .refusal) (opened (r .renewed))
+
+pub record Opens (b : Book) (d : Day) (r : Opened) : Type 0 where
+  pub steps : Steps b (opening d) (openedAs r) (r .book)
+  -- a refused opening says no for all eight
+  pub silent : (n : ℕ) → refusal (view b) (opening d) ≡ some n → r .renewed ≡ replicate 8 false
+
+-- four zeros, or a date with its left
+abbrev pub NoneOrTrue : Day → Type 0
+NoneOrTrue d = isNoDay d ≡ false → isTrueDay d ≡ true
+
+-- one season later, with a full window
+abbrev pub isRenewedBy : Bool → List ℕ → Bool
+isRenewedBy next window = next && eqb (length window) 45
+
+abbrev pub limitOn : Bool → List ℕ → ℕ → Limit → Limit
+limitOn next window p limit =
+    cond (isRenewedBy next window)
+    (record { initial = seasonOf p window; expanded = expandedOf p (seasonOf p window) })
+    limit

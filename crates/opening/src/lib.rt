@@ -1,0 +1,72 @@
+// The opening of a day.
+ghost use mathlib.Core.Path.{_≡_};
+ghost use mathlib.Core.Bool.{true};
+ghost use Rattle.record.specs.Opening.{isTrueDay};
+ghost use Rattle.record.specs.Record.{answer, next as nextState, opening as call, opened as answered};
+ghost use Rattle.record.specs.Sound.{isSound};
+ghost use Rattle.book.specs.Book.{view};
+ghost use Rattle.opening.specs.Opens.{dated, Opens};
+use book::Book;
+use record::Day;
+
+mod refusals;
+mod renewal;
+mod seasons;
+
+use refusals::refusal_of;
+use renewal::limits_on;
+use renewal::renewed_on;
+use renewal::windows_on;
+use seasons::is_next_season;
+use seasons::is_other_season;
+
+pub struct Opened {
+    // 0, or the number of the refusal.
+    pub refusal: u32,
+    // For each product, whether it got new limits.
+    pub renewed: [bool; 8],
+    pub book: Book,
+}
+
+// left: the business days of that month after this day.
+pub fn opening(b: Book, year: u32, month: u32, day: u32, left: u32) -> Opened
+    ensures { λ r. ⌜ Opens b (dated year month day left) r ⌝ }
+{
+    let d = Day {
+        year,
+        month,
+        day,
+        left,
+    };
+    let refusal = refusal_of(b, d);
+    if refusal != 0 {
+        return Opened {
+            refusal,
+            renewed: [false; 8],
+            book: b,
+        };
+    }
+    accepted(b, d)
+}
+
+// What an accepted opening leaves: new limits, then the emptying of windows; levels, marks and sheets stay.
+fn accepted(b: Book, d: Day) -> Opened
+    requires { ⌜ (isSound (view b) ≡ true) × (isTrueDay d ≡ true) ⌝ }
+    ensures { λ r. ⌜ (r .refusal ≡ 0) × (answered (r .renewed) ≡ answer (view b) (call d)) × (view (r .book) ≡ nextState (view b) (call d)) ⌝ }
+{
+    let last = b.day;
+    let w = b.windows;
+    let next = is_next_season(last, d);
+    let mut n = b;
+    let limits = limits_on(next, b);
+    n.limits = limits;
+    n.windows = windows_on(is_other_season(last, d), w);
+    n.day = d;
+    n.trading = true;
+    let renewed = renewed_on(next, w);
+    Opened {
+        refusal: 0,
+        renewed,
+        book: n,
+    }
+}

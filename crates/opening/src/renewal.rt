@@ -1,0 +1,73 @@
+// New limits and emptied windows at an opening. `next` says that it is exactly one season later.
+ghost use mathlib.Core.Path.{_≡_};
+ghost use mathlib.Core.Bool.{true, cond};
+ghost use mathlib.Core.List.{[], map};
+ghost use Prim.Native.Nat.{ℕ, _<_};
+ghost use lib.ListN.{getD};
+ghost use Rattle.grain.specs.Lists.{every};
+ghost use Rattle.grain.specs.Prices.{isSettlement};
+ghost use Rattle.windows.specs.Windows.{windowOf};
+ghost use Rattle.book.specs.Book.{noLimit, limitIn};
+ghost use Rattle.book.specs.Soundness.{eight};
+ghost use Rattle.opening.specs.Opens.{isRenewedBy, limitOn};
+use book::Book;
+use book::Limit;
+use grain::SeasonLimits;
+use windows::Windows;
+
+fn is_renewed(next: bool, w: Windows, p: usize) -> bool
+    requires { ⌜ p < 8 ⌝ }
+    ensures { λ r. ⌜ r ≡ isRenewedBy next (windowOf w p) ⌝ }
+{
+    if !next {
+        return false;
+    }
+    windows::is_full(w, p)
+}
+
+// For each product, whether it gets its season limits.
+pub fn renewed_on(next: bool, w: Windows) -> [bool; 8]
+    ensures { λ r. ⌜ r ≡ map (λ p. isRenewedBy next (windowOf w p)) eight ⌝ }
+{
+    let mut renewed = [false; 8];
+    for p in 0..8usize {
+        renewed[p] = is_renewed(next, w, p);
+    }
+    renewed
+}
+
+fn limit_on(next: bool, w: Windows, p: usize, limit: Limit) -> Limit
+    requires { ⌜ (p < 8) × (every (isSettlement p) (windowOf w p) ≡ true) ⌝ }
+    ensures { λ r. ⌜ r ≡ limitOn next (windowOf w p) p limit ⌝ }
+{
+    if !is_renewed(next, w, p) {
+        return limit;
+    }
+    let SeasonLimits::Are { initial, expanded } = windows::season_limits_of(w, p) else {
+        return limit;
+    };
+    Limit { initial, expanded }
+}
+
+pub fn limits_on(next: bool, b: Book) -> [Limit; 8]
+    requires { ⌜ ((p : ℕ) → p < 8 → every (isSettlement p) (windowOf (b .windows) p) ≡ true) ⌝ }
+    ensures { λ r. ⌜ ((p : ℕ) → p < 8 → getD r p noLimit ≡ limitOn next (windowOf (b .windows) p) p (limitIn b p)) ⌝ }
+{
+    let w = b.windows;
+    let mut limits = b.limits;
+    for p in 0..8usize {
+        let limit = limits[p];
+        limits[p] = limit_on(next, w, p, limit);
+    }
+    limits
+}
+
+// Every window is emptied where the season is another.
+pub fn windows_on(other: bool, w: Windows) -> Windows
+    ensures { λ r. ⌜ ((p : ℕ) → windowOf r p ≡ cond other [] (windowOf w p)) ⌝ }
+{
+    if other {
+        return windows::no_windows();
+    }
+    w
+}
