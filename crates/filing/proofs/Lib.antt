@@ -1,0 +1,3 @@
+pub mod EarlyTests
+pub mod Contracts
+pub mod Filings

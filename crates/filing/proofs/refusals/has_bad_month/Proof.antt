@@ -1,0 +1,47 @@
+use borrow.Author.Needs.{needs}
+use native.Mathlib.Omega.{arith}
+use mathlib.Core.Path.{_≡_, sym, _∙_}
+use borrow.Author.Tests.{not-true, not-false}
+use Rattle.grain.specs.Lists.{_and_}
+use Rattle.filing.proofs.refusals.has_bad_month.Statement.{statement}
+use Rattle.filing.proofs.refusals.has_bad_month.Tie as tie
+use Rattle.filing.proofs.refusals.has_bad_month.Reads as reads
+use Rattle.filing.proofs.refusals.has_bad_month.Lts as lts
+use Rattle.sheets.proofs.are_traded.Reads as are-traded-reads
+use Rattle.sheets.proofs.is_ascending.Reads as is-ascending-reads
+use Rattle.sheets.proofs.starts_from.Reads as starts-from-reads
+
+is-ascending-requires : tie.Need-is-ascending-requires
+is-ascending-requires c κs = search needs
+
+returns : tie.Need-returns
+unfolding _and_
+returns c =
+    rw (sym (c .before .is-ascending .ensures) ∙ not-true _ (c .if1 .taken))
+
+are-traded-requires : tie.Need-are-traded-requires
+are-traded-requires c κs = search needs
+
+returns-2 : tie.Need-returns-2
+unfolding _and_
+returns-2 c =
+    rw (sym (c .before .before .before .is-ascending .ensures) ∙ not-false _ (c .before .before .if1 .left), sym (c .before .are-traded .ensures) ∙ not-true _ (c .if2 .taken))
+
+starts-from-requires : tie.Need-starts-from-requires
+starts-from-requires c κs = search needs
+
+returns-3 : tie.Need-returns-3
+unfolding _and_
+returns-3 c =
+    rw (sym (c .before .before .before .before .is-ascending .ensures) ∙ not-false _ (c .before .before .before .if1 .left), sym (c .before .before .are-traded .ensures) ∙ not-false _ (c .before .if2 .left), sym (c .starts-from .ensures))
+
+pub has-bad-month-spec : {M : Type 1} → statement M
+has-bad-month-spec =
+    tie.close
+    (tie.spec
+    is-ascending-requires
+    returns
+    are-traded-requires
+    returns-2
+    starts-from-requires
+    returns-3)
