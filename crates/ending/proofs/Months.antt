@@ -1,0 +1,54 @@
+-- The months that are collected, from the contract month of the date.
+use Prim.Native.Nat.{ℕ, _+_, _-_, _*_, _≤_}
+use mathlib.Core.Path.{_≡_, refl}
+use mathlib.Core.Bool.{Bool, true, false, _||_, cond}
+use mathlib.Core.Option.{Option, some, none}
+use native.Mathlib.Omega.{arith}
+use lib.Dec.{eqb}
+use Rattle.grain.specs.Dates.{contractMonth}
+use Rattle.grain.proofs.ValidDates.{valid-date}
+use Rattle.record.specs.declared.Day.{Day}
+use Rattle.record.specs.State.{monthOf}
+use Rattle.record.specs.Opening.{isTrueDay}
+use Rattle.record.specs.Window.{newCropMonth}
+use Rattle.book.proofs.Calendars.{true-date}
+use Rattle.ending.specs.Ends.{collectingAs, monthIn}
+
+pub record Dated (d : Day) (today : ℕ) : Type 0 where
+  pub falls : today + 1 ≡ d .year * 12 + d .month
+  pub first : 2000 ≤ d .year
+  pub last : d .year ≤ 2098
+  pub someMonth : 1 ≤ d .month
+  pub lastMonth : d .month ≤ 12
+
+pub dated : (d : Day) (today : ℕ) → isTrueDay d ≡ true → today ≡ monthOf d → Dated d today
+unfolding contractMonth
+dated d today t e =
+    let v = valid-date (d .year) (d .month) (d .day) (true-date d t) in
+    let some = v .someMonth in
+    record { falls = omega arith; first = v .first; last = v .last; someMonth = v .someMonth; lastMonth = v .lastMonth }
+
+-- from January of the date's year
+module _ (d : Day) (today : ℕ) (is : Dated d today) where
+  pub next-july : today + 1 - d .month + 18 ≡ contractMonth (d .year + 1) 7
+  unfolding contractMonth
+  next-july = let falls = is .falls in omega arith
+
+  pub this-july : today + 1 - d .month + 6 ≡ contractMonth (d .year) 7
+  unfolding contractMonth
+  this-july = let falls = is .falls in omega arith
+
+  pub this-year : (month : ℕ) → today + 1 - d .month + month - 1 ≡ contractMonth (d .year) month
+  unfolding contractMonth
+  this-year month = let falls = is .falls in omega arith
+
+pub new-crop-small : (p : ℕ) → newCropMonth p ≤ 12
+new-crop-small p = go (eqb p 1 || eqb p 7)
+  where
+    go : (b : Bool) → cond b 11 12 ≤ 12
+    go true = omega arith
+    go false = omega arith
+
+pub month-in : (o : Option ℕ) → monthIn (collectingAs o) ≡ o
+month-in none = refl
+month-in (some month) = refl

@@ -1,0 +1,60 @@
+use borrow.Author.Needs.{needs}
+use mathlib.Core.Path.{sym, _∙_}
+use borrow.Author.Tests.{not-true, not-false}
+use Rattle.record.specs.End.{leading, eventOf, isAtExpanded}
+use Rattle.record.specs.Choices.{keep}
+use Rattle.record.specs.History.{productsOf}
+use Rattle.lead.specs.Lead.{movesOf}
+use Rattle.ending.proofs.Founds.{nobody, found-at}
+use Rattle.ending.proofs.events.expanded_event.Statement.{statement}
+use Rattle.ending.proofs.events.expanded_event.Tie as tie
+
+held-or-reverted-requires : tie.Need-held-or-reverted-requires
+held-or-reverted-requires c κs = search needs
+
+returns : tie.Need-returns
+unfolding eventOf
+returns c =
+    rw (not-true (c .before .before .args .marked) (c .before .if1 .taken)) (c .held-or-reverted .ensures)
+
+leading-in-requires : tie.Need-leading-in-requires
+leading-in-requires c κs = search needs
+
+enum-known-at : tie.Need-enum-known-at
+enum-known-at c = search needs
+
+enum-told : tie.Need-enum-told
+enum-told c = search needs
+
+held-or-reverted-requires-2 : tie.Need-held-or-reverted-requires-2
+held-or-reverted-requires-2 c κs = search needs
+
+returns-2 : tie.Need-returns-2
+unfolding eventOf
+returns-2 c =
+    let k = c .before .before .before in
+    let h = k .before in
+    let a = h .before .args in
+    rw (not-false (a .marked) (h .if1 .left), nobody (leading (keep isAtExpanded (movesOf (a .b) (a .today) (a .left) (productsOf (a .g))))) (sym (k .leading-in .ensures) ∙ c .before .enum-told .given .1))
+    (c .held-or-reverted2 .ensures)
+
+returns-3 : tie.Need-returns-3
+unfolding eventOf
+returns-3 c =
+    let k = c .before .before .before in
+    let h = k .before in
+    let a = h .before .args in
+    rw (not-false (a .marked) (h .if1 .left), found-at (leading (keep isAtExpanded (movesOf (a .b) (a .today) (a .left) (productsOf (a .g))))) _ (sym (k .leading-in .ensures) ∙ c .before .at .given .1))
+
+pub expanded-event-spec : {M : Type 1} → statement M
+expanded-event-spec =
+    tie.close
+    (tie.spec
+    held-or-reverted-requires
+    returns
+    leading-in-requires
+    enum-known-at
+    enum-told
+    held-or-reverted-requires-2
+    returns-2
+    returns-3)

@@ -1,0 +1,90 @@
+// The event of each group, with its leading contract. `today` is the contract month of the date.
+ghost use mathlib.Core.Path.{_≡_};
+ghost use mathlib.Core.List.{map};
+ghost use Prim.Native.Nat.{_<_};
+ghost use Rattle.record.specs.Choices.{keep};
+ghost use Rattle.record.specs.State.{initial, expanded};
+ghost use Rattle.record.specs.End.{leading, ledBy, isHolding, eventOf};
+ghost use Rattle.record.specs.declared.Event.the-variants.{Held, Reverted};
+ghost use Rattle.record.specs.History.{productsOf};
+ghost use Rattle.book.specs.Book.{standingIn};
+ghost use Rattle.book.specs.Soundness.{six};
+ghost use Rattle.lead.specs.Lead.{meets, foundAs, movesOf, Readable};
+ghost use Rattle.ending.specs.Ends.{eventIn, eventsOf};
+use crate::GroupEvent;
+use book::Book;
+use lead::Condition;
+use lead::Found;
+use record::Event;
+
+// The products of a group stand together: from FIRSTS[g], up to ENDS[g] and not with it.
+const FIRSTS: [usize; 6] = [0, 1, 4, 5, 6, 7];
+
+const ENDS: [usize; 6] = [1, 4, 5, 6, 7, 8];
+
+pub fn leading_in(b: Book, today: u32, left: u32, condition: Condition, g: usize) -> Found
+    requires { ⌜ (g < 6) × Readable b ⌝ }
+    ensures { λ r. ⌜ r ≡ foundAs (leading (keep (meets condition) (movesOf b today left (productsOf g)))) ⌝ }
+{
+    lead::leading(b, today, left, condition, FIRSTS[g], ENDS[g])
+}
+
+fn initial_event(b: Book, today: u32, left: u32, g: usize) -> Event
+    requires { ⌜ (g < 6) × Readable b ⌝ }
+    ensures { λ r. ⌜ r ≡ eventOf initial (standingIn b g .marked) (movesOf b today left (productsOf g)) ⌝ }
+{
+    let Found::At(at) = leading_in(b, today, left, Condition::Trigger, g) else {
+        return Event::Quiet;
+    };
+    Event::Triggered(at)
+}
+
+// Of an expanded group that is not raised.
+fn held_or_reverted(b: Book, today: u32, left: u32, g: usize) -> Event
+    requires { ⌜ (g < 6) × Readable b ⌝ }
+    ensures { λ r. ⌜ r ≡ ledBy (leading (keep isHolding (movesOf b today left (productsOf g)))) Held Reverted ⌝ }
+{
+    let Found::At(at) = leading_in(b, today, left, Condition::Holding, g) else {
+        return Event::Reverted;
+    };
+    Event::Held(at)
+}
+
+fn expanded_event(b: Book, today: u32, left: u32, marked: bool, g: usize) -> Event
+    requires { ⌜ (g < 6) × Readable b ⌝ }
+    ensures { λ r. ⌜ r ≡ eventOf expanded marked (movesOf b today left (productsOf g)) ⌝ }
+{
+    if !marked {
+        return held_or_reverted(b, today, left, g);
+    }
+    let Found::At(at) = leading_in(b, today, left, Condition::AtExpanded, g) else {
+        return held_or_reverted(b, today, left, g);
+    };
+    Event::Raised(at)
+}
+
+fn event_of(b: Book, today: u32, left: u32, g: usize) -> Event
+    requires { ⌜ (g < 6) × Readable b ⌝ }
+    ensures { λ r. ⌜ r ≡ eventIn b today left g ⌝ }
+{
+    let standing = b.standings[g];
+    if standing.expanded {
+        return expanded_event(b, today, left, standing.marked, g);
+    }
+    initial_event(b, today, left, g)
+}
+
+pub fn events_of(b: Book, today: u32, left: u32) -> [GroupEvent; 6]
+    requires { ⌜ Readable b ⌝ }
+    ensures { λ r. ⌜ eventsOf r ≡ map (eventIn b today left) six ⌝ }
+{
+    let mut events = [GroupEvent {
+        event: Event::Quiet,
+    }; 6];
+    for g in 0..6usize {
+        events[g] = GroupEvent {
+            event: event_of(b, today, left, g),
+        };
+    }
+    events
+}

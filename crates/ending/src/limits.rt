@@ -1,0 +1,49 @@
+// The limits of each product after its group's event: a raise gives every product of the group I = old E and E afresh.
+ghost use mathlib.Core.Path.{_≡_};
+ghost use Prim.Native.Nat.{ℕ, _<_};
+ghost use lib.ListN.{getD};
+ghost use Rattle.record.specs.State.{groupOf};
+ghost use Rattle.record.specs.End.{isRaised};
+ghost use Rattle.book.specs.Book.{noLimit};
+ghost use Rattle.ending.specs.Ends.{quiet, limitAfter};
+use crate::GroupEvent;
+use book::Limit;
+use record::Event;
+
+fn is_raised(event: Event) -> bool
+    ensures { λ r. ⌜ r ≡ isRaised event ⌝ }
+{
+    match event {
+        Event::Quiet => false,
+        Event::Triggered(_) => false,
+        Event::Held(_) => false,
+        Event::Reverted => false,
+        Event::Raised(_) => true,
+    }
+}
+
+fn limit_after(raised: bool, p: usize, limit: Limit) -> Limit
+    requires { ⌜ p < 8 ⌝ }
+    ensures { λ r. ⌜ r ≡ limitAfter raised p limit ⌝ }
+{
+    if !raised {
+        return limit;
+    }
+    Limit {
+        initial: limit.expanded,
+        expanded: grain::expanded(p as u32, limit.expanded),
+    }
+}
+
+pub fn limits_after(events: [GroupEvent; 6], limits: [Limit; 8]) -> [Limit; 8]
+    ensures { λ r. ⌜ ((p : ℕ) → p < 8 → getD r p noLimit ≡ limitAfter (isRaised (getD events (groupOf p) quiet .event)) p (getD limits p noLimit)) ⌝ }
+{
+    let mut after = limits;
+    for p in 0..8usize {
+        let one = events[book::group_of(p)];
+        let event = one.event;
+        let limit = limits[p];
+        after[p] = limit_after(is_raised(event), p, limit);
+    }
+    after
+}

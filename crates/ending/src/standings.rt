@@ -1,0 +1,69 @@
+// The level and mark of each group after its event.
+ghost use mathlib.Core.Path.{_≡_};
+ghost use Prim.Native.Nat.{ℕ, _<_};
+ghost use lib.ListN.{getD};
+ghost use Rattle.grain.specs.Lists.{any};
+ghost use Rattle.record.specs.End.{isAtExpanded};
+ghost use Rattle.record.specs.History.{productsOf};
+ghost use Rattle.book.specs.Book.{noStanding};
+ghost use Rattle.lead.specs.Lead.{movesOf, Readable};
+ghost use Rattle.ending.specs.Ends.{quiet, standingAfter};
+use crate::GroupEvent;
+use crate::events::leading_in;
+use book::Book;
+use book::Standing;
+use lead::Condition;
+use lead::Found;
+use record::Event;
+
+// Held with a move of exactly E, which `reached` says, is marked; every other event clears the mark.
+fn standing_after(event: Event, reached: bool) -> Standing
+    ensures { λ r. ⌜ r ≡ standingAfter event reached ⌝ }
+{
+    match event {
+        Event::Quiet => Standing {
+            expanded: false,
+            marked: false,
+        },
+        Event::Triggered(_) => Standing {
+            expanded: true,
+            marked: false,
+        },
+        Event::Held(_) => Standing {
+            expanded: true,
+            marked: reached,
+        },
+        Event::Reverted => Standing {
+            expanded: false,
+            marked: false,
+        },
+        Event::Raised(_) => Standing {
+            expanded: false,
+            marked: false,
+        },
+    }
+}
+
+// One of the group moved by exactly E.
+fn is_at_expanded(b: Book, today: u32, left: u32, g: usize) -> bool
+    requires { ⌜ (g < 6) × Readable b ⌝ }
+    ensures { λ r. ⌜ r ≡ any isAtExpanded (movesOf b today left (productsOf g)) ⌝ }
+{
+    let Found::At(_) = leading_in(b, today, left, Condition::AtExpanded, g) else {
+        return false;
+    };
+    true
+}
+
+pub fn standings_after(b: Book, today: u32, left: u32, events: [GroupEvent; 6]) -> [Standing; 6]
+    requires { ⌜ Readable b ⌝ }
+    ensures { λ r. ⌜ ((g : ℕ) → g < 6 → getD r g noStanding ≡ standingAfter (getD events g quiet .event) (any isAtExpanded (movesOf b today left (productsOf g)))) ⌝ }
+{
+    let mut standings = b.standings;
+    for g in 0..6usize {
+        let one = events[g];
+        let event = one.event;
+        standings[g] = standing_after(event, is_at_expanded(b, today, left, g));
+    }
+    standings
+}
