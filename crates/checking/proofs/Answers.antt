@@ -1,0 +1,74 @@
+-- What a check on a sound book with a day open answers, refusal by refusal.
+use Prim.Native.Nat.{ℕ, _<_, _≤_}
+use mathlib.Core.Path.{_≡_, refl, sym, _∙_, ap}
+use mathlib.Core.Bool.{Bool, true, false}
+use mathlib.Core.Option.{Option, some, none}
+use native.Mathlib.Omega.{arith}
+use lib.Dec.{ltb}
+use borrow.Author.Tests.{eq-eqb, ne-eqb, ltb-true, ltb-false, lt-ltb, le-ltb}
+use Rattle.grain.specs.Products.{tickOf}
+use Rattle.grain.specs.Prices.{isOnTick, isPrice}
+use Rattle.grain.specs.Check.{verdict}
+use Rattle.grain.specs.Refusals.{noSuchProduct, badPrice}
+use Rattle.grain.proofs.Columns.{tick-beyond}
+use Rattle.record.specs.Refusals.{first, wrongPhase, notListed}
+use Rattle.record.specs.State.{Common, Product, dayOf, monthOf, isSpotOn, groupOf, groupAt, productIn, limitIn, sheetOr, settlementOn}
+use Rattle.record.specs.Check.{listed, checkTests, checkAnswer}
+use Rattle.record.specs.Sound.{isSound}
+use Rattle.record.specs.Record.{check, Answer, refused, checked, tests, refusal, answer, step}
+use Rattle.sheets.specs.Sheets.{contractsOf, sheetIn}
+use Rattle.book.specs.declared.Book.{Book}
+use Rattle.book.specs.Book.{lastIn, viewProduct, viewCommon, view}
+use Rattle.book.specs.Calls.{Steps}
+use Rattle.book.proofs.Numbered.{sound-refusal}
+use Rattle.book.proofs.Steps.{refused-steps, check-steps}
+use Rattle.book.proofs.Views.{product-is}
+
+-- a size that is offered is a product's
+pub offered-product : (p size : ℕ) → (tickOf p size ≡ 0 → ⊥) → p < 8
+offered-product p size n = go (ltb p 8) refl
+  where
+    go : (b : Bool) → ltb p 8 ≡ b → p < 8
+    go true e = ltb-true p 8 e
+    go false e = absurd (n (tick-beyond p size (ltb-false p 8 e)))
+
+-- with no day open
+pub closed : (b : Book) (p size month price : ℕ) → isSound (view b) ≡ true → b .trading ≡ false
+    → Steps b (check p size month price) (refused wrongPhase) b
+unfolding tests view viewCommon
+closed b p size month price sound shut =
+    refused-steps b (check p size month price) wrongPhase (sound-refusal (view b) (check p size month price) sound ∙ rw shut)
+
+module _ (b : Book) (p size month price : ℕ) (sound : isSound (view b) ≡ true) (trading : b .trading ≡ true) where
+  refusal-is : refusal (view b) (check p size month price)
+      ≡ first (checkTests (view b .common) (groupAt (view b) (groupOf p)) p size month price)
+  unfolding tests view viewCommon
+  refusal-is = sound-refusal (view b) (check p size month price) sound ∙ rw trading
+
+  pub not-offered : tickOf p size ≡ 0 → Steps b (check p size month price) (refused noSuchProduct) b
+  unfolding checkTests
+  not-offered e =
+      refused-steps b (check p size month price) noSuchProduct (refusal-is ∙ rw (eq-eqb (tickOf p size) 0 e))
+
+  module _ (offered : tickOf p size ≡ 0 → ⊥) where
+    pub not-listed : listed (view b .common) (groupAt (view b) (groupOf p)) p month ≡ none
+        → Steps b (check p size month price) (refused notListed) b
+    unfolding checkTests
+    not-listed e =
+        refused-steps b (check p size month price) notListed (refusal-is ∙ rw (ne-eqb (tickOf p size) 0 offered, e))
+
+    module _ (x : ℕ) (found : listed (view b .common) (groupAt (view b) (groupOf p)) p month ≡ some x) where
+      pub bad-price : isOnTick (tickOf p size) price ≡ false → Steps b (check p size month price) (refused badPrice) b
+      unfolding checkTests
+      bad-price e =
+          refused-steps b (check p size month price) badPrice
+          (refusal-is ∙ rw (ne-eqb (tickOf p size) 0 offered, found, e))
+
+      pub judged : isOnTick (tickOf p size) price ≡ true
+          → Steps b (check p size month price)
+          (checked (verdict (isSpotOn (dayOf (view b .common)) month) x (limitIn (groupAt (view b) (groupOf p)) p) price)) b
+      unfolding checkTests step answer checkAnswer
+      judged e =
+          let accepted : refusal (view b) (check p size month price) ≡ none =
+          refusal-is ∙ rw (ne-eqb (tickOf p size) 0 offered, found, e) in
+          check-steps b p size month price _ (rw (accepted, found))
