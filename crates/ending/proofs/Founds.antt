@@ -7,22 +7,30 @@ use Rattle.grain.specs.Lists.{any}
 use Rattle.record.specs.declared.Lead.{Lead}
 use Rattle.record.specs.Choices.{keep, isSome}
 use Rattle.record.specs.End.{Move, leading}
+use Rattle.lead.specs.declared.Found.{Found}
 use Rattle.lead.specs.declared.Found.the-variants.{At, Nobody}
 use Rattle.lead.specs.Lead.{foundAs}
 use Rattle.lead.proofs.Leads.{leading-any}
 
-pub nobody : (o : Option Lead) → foundAs o ≡ Nobody → o ≡ none
-nobody none e = refl
-nobody (some l) e = cc
+module _ (o : Option Lead) (r : Found) (e : r ≡ foundAs o) where
+  pub nobody : r ≡ Nobody → o ≡ none
+  nobody t = go o (sym e ∙ t)
+    where
+      go : (o : Option Lead) → foundAs o ≡ Nobody → o ≡ none
+      go none h = refl
+      go (some l) h = cc
 
-pub found-at : (o : Option Lead) (l : Lead) → foundAs o ≡ At l → o ≡ some l
-found-at none l e = cc
-found-at (some m) l e = let h : m ≡ l = cc in ap some h
+  pub found-at : (l : Lead) → r ≡ At l → o ≡ some l
+  found-at l t = go o (sym e ∙ t)
+    where
+      go : (o : Option Lead) → foundAs o ≡ At l → o ≡ some l
+      go none h = cc
+      go (some m) h = let is : m ≡ l = cc in ap some is
 
 -- whether one moved so
-module _ (g : Move → Bool) (ms : List Move) where
-  pub nobody-moved : foundAs (leading (keep g ms)) ≡ Nobody → false ≡ any g ms
-  nobody-moved e = sym (sym (leading-any g ms) ∙ ap isSome (nobody (leading (keep g ms)) e))
+module _ (g : Move → Bool) (ms : List Move) (r : Found) (e : r ≡ foundAs (leading (keep g ms))) where
+  pub nobody-moved : r ≡ Nobody → false ≡ any g ms
+  nobody-moved t = sym (sym (leading-any g ms) ∙ ap isSome (nobody (leading (keep g ms)) r e t))
 
-  pub one-moved : (l : Lead) → foundAs (leading (keep g ms)) ≡ At l → true ≡ any g ms
-  one-moved l e = sym (sym (leading-any g ms) ∙ ap isSome (found-at (leading (keep g ms)) l e))
+  pub one-moved : (l : Lead) → r ≡ At l → true ≡ any g ms
+  one-moved l t = sym (sym (leading-any g ms) ∙ ap isSome (found-at (leading (keep g ms)) r e l t))

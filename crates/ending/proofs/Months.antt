@@ -18,15 +18,14 @@ pub record Dated (d : Day) (today : ℕ) : Type 0 where
   pub falls : today + 1 ≡ d .year * 12 + d .month
   pub first : 2000 ≤ d .year
   pub last : d .year ≤ 2098
-  pub someMonth : 1 ≤ d .month
   pub lastMonth : d .month ≤ 12
 
 pub dated : (d : Day) (today : ℕ) → isTrueDay d ≡ true → today ≡ monthOf d → Dated d today
 unfolding contractMonth
 dated d today t e =
     let v = valid-date (d .year) (d .month) (d .day) (true-date d t) in
-    let some = v .someMonth in
-    record { falls = omega arith; first = v .first; last = v .last; someMonth = v .someMonth; lastMonth = v .lastMonth }
+    let month = v .someMonth in
+    record { falls = omega arith; first = v .first; last = v .last; lastMonth = v .lastMonth }
 
 -- from January of the date's year
 module _ (d : Day) (today : ℕ) (is : Dated d today) where

@@ -1,18 +1,10 @@
 use borrow.Author.Needs.{needs}
-use Prim.Native.Nat.{ℕ}
-use mathlib.Core.Path.{refl, _∙_, ap}
+use mathlib.Core.Path.{refl}
 use mathlib.Core.Bool.{false}
-use mathlib.Core.List.{map}
-use lib.ListN.{getD, replicate, getD-replicate}
-use Rattle.grain.specs.Lists.{any}
-use Rattle.record.specs.End.{isAtExpanded}
-use Rattle.record.specs.History.{productsOf}
+use lib.ListN.{replicate, getD-replicate}
 use Rattle.book.specs.declared.Book.{Book}
 use Rattle.book.specs.Book.{noSheet}
-use Rattle.book.specs.Soundness.{six}
 use Rattle.book.proofs.SoundFacts.{today-fits, size-fits}
-use Rattle.lead.specs.Lead.{movesOf}
-use Rattle.ending.specs.Ends.{quiet, eventIn, standingAfter}
 use Rattle.ending.proofs.AfterEnd.{Leaves, end-answer, end-view}
 use Rattle.ending.proofs.SoundBook.{readable, open-date}
 use Rattle.ending.proofs.accepted.Statement.{statement}
@@ -63,9 +55,8 @@ returns c =
       trading = false;
     } in
     let left : Leaves b z es = record {
-      events = e .events-of .ensures ∙ ap (λ (today : ℕ). map (eventIn b today (b .day .left)) six) month;
-      standings = λ g h. s .standings-after .ensures g h
-          ∙ ap (λ (today : ℕ). standingAfter (getD es g quiet .event) (any isAtExpanded (movesOf b today (b .day .left) (productsOf g)))) month;
+      events = rw (← month) (e .events-of .ensures);
+      standings = λ g h. rw (← month) (s .standings-after .ensures g h);
       limits = l .limits-after .ensures;
       windows = w .windows-after .ensures;
       today = λ p h. rw (getD-replicate 8 p (c .no-sheet .result) noSheet h) (c .no-sheet .ensures);

@@ -1,5 +1,4 @@
 use borrow.Author.Needs.{needs}
-use mathlib.Core.Path.{sym, _∙_}
 use Rattle.record.specs.End.{isAtExpanded}
 use Rattle.record.specs.History.{productsOf}
 use Rattle.lead.specs.Lead.{movesOf}
@@ -20,13 +19,13 @@ returns : tie.Need-returns
 returns c =
     let k = c .before .before in
     let a = k .before .args in
-    nobody-moved isAtExpanded (movesOf (a .b) (a .today) (a .left) (productsOf (a .g))) (sym (k .leading-in .ensures) ∙ c .enum-told2 .given .1)
+    nobody-moved isAtExpanded (movesOf (a .b) (a .today) (a .left) (productsOf (a .g))) (k .leading-in .result) (k .leading-in .ensures) (c .enum-told2 .given .1)
 
 returns-2 : tie.Need-returns-2
 returns-2 c =
     let k = c .before .before in
     let a = k .before .args in
-    one-moved isAtExpanded (movesOf (a .b) (a .today) (a .left) (productsOf (a .g))) _ (sym (k .leading-in .ensures) ∙ c .enum-told .given .1)
+    one-moved isAtExpanded (movesOf (a .b) (a .today) (a .left) (productsOf (a .g))) (k .leading-in .result) (k .leading-in .ensures) _ (c .enum-told .given .1)
 
 pub is-at-expanded-spec : {M : Type 1} → statement M
 is-at-expanded-spec =
