@@ -1,9 +1,9 @@
 -- A refused and an accepted call: what gives all that a call promises.
 use Prim.Native.Nat.{ℕ}
-use mathlib.Core.Path.{_≡_, refl, sym}
+use mathlib.Core.Path.{_≡_, refl}
 use mathlib.Core.List.{List, [], _∷_, map}
 use mathlib.Core.Option.{Option, some, none}
-use Rattle.record.specs.State.{Group, Common, Record}
+use Rattle.record.specs.State.{Group, Common}
 use Rattle.record.specs.Record.{Call, check, Answer, refused, refusal, answer, next, nextCommon, nextGroup, step, stateBy}
 use Rattle.book.specs.declared.Book.{Book}
 use Rattle.book.specs.Book.{view}

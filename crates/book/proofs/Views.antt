@@ -1,16 +1,15 @@
 -- The contents of a book by product and by group.
 use Prim.Native.Nat.{ℕ, zero, suc, _<_}
-use mathlib.Core.Path.{_≡_, refl, sym, _∙_, ap₂}
-use mathlib.Core.Bool.{Bool, true}
+use mathlib.Core.Path.{_≡_, refl, ap₂}
+use mathlib.Core.Bool.{true}
 use mathlib.Core.List.{List, [], _∷_, map}
 use native.Mathlib.Omega.{arith}
 use lib.Dec.{ltb, lit<}
-use lib.ListN.{getD}
 use borrow.Author.Tests.{ltb-true}
 use Rattle.grain.specs.Lists.{_and_, every}
 use Rattle.grain.proofs.Tests.{and-left, and-right}
 use Rattle.grain.proofs.Below.{below}
-use Rattle.record.specs.State.{Product, Group, Record, groupTable, groupOf, groupAt, productIn}
+use Rattle.record.specs.State.{Product, Group, groupTable, groupOf, groupAt, productIn}
 use Rattle.record.specs.History.{productsOf}
 use Rattle.record.specs.Record.{Call, next, nextCommon, nextGroup}
 use Rattle.book.specs.declared.Book.{Book}

@@ -2,7 +2,7 @@
 use Prim.Native.Nat.{ℕ}
 use mathlib.Core.Path.{_≡_}
 use mathlib.Core.Bool.{cond}
-use mathlib.Core.Option.{Option, some}
+use mathlib.Core.Option.{some}
 use lib.Dec.{eqb}
 use Rattle.record.specs.Record.{Call, Answer, refused, refusal, step}
 use Rattle.book.specs.declared.Book.{Book}

@@ -1,10 +1,8 @@
 -- What founding promises, whatever the eight limits.
-use Prim.Native.Nat.{ℕ}
 use mathlib.Core.Path.{_≡_}
 use mathlib.Core.Bool.{true, false, cond}
 use lib.ListN.{replicate}
 use Rattle.grain.specs.Refusals.{unfitAmount}
-use Rattle.record.specs.declared.Contract.{Contract}
 use Rattle.record.specs.State.{noDay}
 use Rattle.record.specs.Founding.{Start, isFitStart, founded}
 use Rattle.sheets.specs.declared.Sheet.{Sheet}

@@ -1,28 +1,25 @@
 -- What a check on a sound book with a day open answers, refusal by refusal.
-use Prim.Native.Nat.{ℕ, _<_, _≤_}
-use mathlib.Core.Path.{_≡_, refl, sym, _∙_, ap}
+use Prim.Native.Nat.{ℕ, _<_}
+use mathlib.Core.Path.{_≡_, refl, _∙_}
 use mathlib.Core.Bool.{Bool, true, false}
-use mathlib.Core.Option.{Option, some, none}
-use native.Mathlib.Omega.{arith}
+use mathlib.Core.Option.{some, none}
 use lib.Dec.{ltb}
-use borrow.Author.Tests.{eq-eqb, ne-eqb, ltb-true, ltb-false, lt-ltb, le-ltb}
+use borrow.Author.Tests.{eq-eqb, ne-eqb, ltb-true, ltb-false}
 use Rattle.grain.specs.Products.{tickOf}
-use Rattle.grain.specs.Prices.{isOnTick, isPrice}
+use Rattle.grain.specs.Prices.{isOnTick}
 use Rattle.grain.specs.Check.{verdict}
 use Rattle.grain.specs.Refusals.{noSuchProduct, badPrice}
 use Rattle.grain.proofs.Columns.{tick-beyond}
 use Rattle.record.specs.Refusals.{first, wrongPhase, notListed}
-use Rattle.record.specs.State.{Common, Product, dayOf, monthOf, isSpotOn, groupOf, groupAt, productIn, limitIn, sheetOr, settlementOn}
+use Rattle.record.specs.State.{dayOf, isSpotOn, groupOf, groupAt, limitIn}
 use Rattle.record.specs.Check.{listed, checkTests, checkAnswer}
 use Rattle.record.specs.Sound.{isSound}
-use Rattle.record.specs.Record.{check, Answer, refused, checked, tests, refusal, answer, step}
-use Rattle.sheets.specs.Sheets.{contractsOf, sheetIn}
+use Rattle.record.specs.Record.{check, refused, checked, tests, refusal, answer, step}
 use Rattle.book.specs.declared.Book.{Book}
-use Rattle.book.specs.Book.{lastIn, viewProduct, viewCommon, view}
+use Rattle.book.specs.Book.{viewCommon, view}
 use Rattle.book.specs.Calls.{Steps}
 use Rattle.book.proofs.Numbered.{sound-refusal}
 use Rattle.book.proofs.Steps.{refused-steps, check-steps}
-use Rattle.book.proofs.Views.{product-is}
 
 -- a size that is offered is a product's
 pub offered-product : (p size : ℕ) → (tickOf p size ≡ 0 → ⊥) → p < 8

@@ -1,9 +1,8 @@
 -- The windows of a book, replaced one after the other: before p the new ones, from p on the old.
 use Prim.Native.Nat.{ℕ, _+_, _<_, _≤_}
 use mathlib.Core.Path.{_≡_, refl, _∙_}
-use mathlib.Core.Bool.{Bool, true, false, cond}
+use mathlib.Core.Bool.{Bool, true, false}
 use mathlib.Core.List.{List}
-use mathlib.Core.Option.{some, none}
 use native.Mathlib.Omega.{arith}
 use lib.Dec.{leb, eqb}
 use lib.ListN.{length, length-take}
@@ -16,6 +15,7 @@ use Rattle.sheets.specs.Sheets.{contractsOf, sheetIn}
 use Rattle.windows.specs.declared.Windows.{Windows}
 use Rattle.windows.specs.Windows.{sizeOf, windowOf, Changed}
 use Rattle.windows.proofs.Shown.{shown, too-long}
+use Rattle.book.proofs.SheetsIn.{sheet-contracts}
 use Rattle.ending.specs.declared.collection.Collecting.{Collecting}
 use Rattle.ending.specs.Ends.{collectingAs, monthIn}
 use Rattle.ending.proofs.Months.{month-in}
@@ -53,15 +53,6 @@ module _ (new : ℕ → List ℕ) (old : Windows) where
           let less : q < p = omega arith in
           c .others q other ∙ f .done q less
 
--- a sheet that is not in has no contracts
-pub in-or-none : (s : Sheet) → sheetOr (sheetIn s) ≡ contractsOf s
-unfolding sheetIn contractsOf
-in-or-none s = go (eqb (s .len) 0) refl
-  where
-    go : (b : Bool) → eqb (s .len) 0 ≡ b → sheetOr (cond b none (some (contractsOf s))) ≡ contractsOf s
-    go true e = let z : s .len ≡ 0 = eqb-true _ _ e in rw z
-    go false e = refl
-
 -- the collected contract's settlement goes to a window that is still the old one
 pub collected-as : (d : Day) (p : ℕ) (s : Sheet) (c : Collecting) (old w r : Windows)
     → c ≡ collectingAs (collectedMonth d p) → windowOf w p ≡ windowOf old p
@@ -69,4 +60,4 @@ pub collected-as : (d : Day) (p : ℕ) (s : Sheet) (c : Collecting) (old w r : W
     → Changed w p (windowAfter d p (windowOf old p) (sheetOr (sheetIn s))) r
 unfolding windowAfter
 collected-as d p s c old w r e f g =
-    record { changed = g .changed ∙ rw (e, month-in (collectedMonth d p), f, in-or-none s); others = g .others }
+    record { changed = g .changed ∙ rw (e, month-in (collectedMonth d p), f, sheet-contracts s); others = g .others }

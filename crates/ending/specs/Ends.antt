@@ -1,7 +1,7 @@
 -- What an end promises, whatever the book; and what it does to a group's standing, a product's limits and its window.
 use Prim.Native.Nat.{ℕ}
 use mathlib.Core.Path.{_≡_}
-use mathlib.Core.Bool.{Bool, true, false, cond}
+use mathlib.Core.Bool.{Bool, cond}
 use mathlib.Core.List.{List, map}
 use mathlib.Core.Option.{Option, some, none}
 use lib.ListN.{replicate}

@@ -1,6 +1,6 @@
 -- A sheet past the tests before its contracts, and the book that holds it.
-use Prim.Native.Nat.{ℕ, suc, _<_, _≤_}
-use mathlib.Core.Path.{_≡_, refl, sym, _∙_, ap, ap₂}
+use Prim.Native.Nat.{ℕ, _<_, _≤_}
+use mathlib.Core.Path.{_≡_, refl, sym, _∙_, ap}
 use mathlib.Core.Bool.{Bool, true, false, not, _||_, cond}
 use mathlib.Core.List.{List, [], _∷_, _++_}
 use mathlib.Core.Option.{Option, some, none}
@@ -11,22 +11,20 @@ use lib.Seq.{getD-set-same, getD-set-other}
 use borrow.Author.Tests.{not-false, eqb-true, eqb-false, ltb-true, ltb-false, ne-eqb}
 use Rattle.grain.specs.Refusals.{badPrice}
 use Rattle.grain.specs.Lists.{every, _and_}
-use Rattle.grain.specs.Products.{isProduct}
 use Rattle.grain.proofs.Tests.{neither}
 use Rattle.record.specs.declared.Contract.{Contract}
-use Rattle.record.specs.Choices.{isSome, orElse}
+use Rattle.record.specs.Choices.{orElse}
 use Rattle.record.specs.Refusals.{Test, when, first, badMonth, contractAbsent, beyondLimit}
-use Rattle.record.specs.State.{Product, Group, Record, dayOf, isSpotOn, groupOf, groupAt, productIn, limitIn, sheetOr}
+use Rattle.record.specs.State.{Record, dayOf, isSpotOn, groupOf, groupAt, productIn, limitIn, sheetOr}
 use Rattle.record.specs.Sheet.{contracts, isMisshapen, hasBadMonth, hasBadSettlement, lacksContract, isBeyond, sheetTests, fileProduct, fileGroup}
 use Rattle.record.specs.Sound.{isSound}
-use Rattle.record.specs.History.{productsOf}
 use Rattle.record.specs.Record.{sheet, tests, refusal, next, nextCommon, nextGroup}
 use Rattle.record.proofs.Cleared.{cleared}
 use Rattle.sheets.specs.declared.Sheet.{Sheet}
 use Rattle.sheets.specs.Sheets.{contractsOf, sheetIn, monthsOf, settlementsOf}
 use Rattle.book.specs.declared.Book.{Book}
 use Rattle.book.specs.Book.{noSheet, todayIn, viewProduct, viewGroup, viewCommon, view}
-use Rattle.book.proofs.Numbered.{isNumbered, none-by}
+use Rattle.book.proofs.Numbered.{none-by}
 use Rattle.book.proofs.Views.{trading-is, group-view, next-view}
 use Rattle.filing.specs.Files.{earlyTests, contractTests}
 

@@ -1,7 +1,7 @@
 -- A list of calls follows the Record: its answers and the book that it leaves are the Record's.
 use mathlib.Core.Path.{_≡_, refl}
-use mathlib.Core.List.{List, [], _∷_}
-use Rattle.record.specs.Record.{Call, Answer, step, stateAfter, answers}
+use mathlib.Core.List.{List, _∷_}
+use Rattle.record.specs.Record.{Call, Answer, stateAfter, answers}
 use Rattle.book.specs.declared.Book.{Book}
 use Rattle.book.specs.Book.{view}
 use Rattle.book.specs.Calls.{Steps}

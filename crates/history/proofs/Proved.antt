@@ -9,11 +9,11 @@ use Rattle.grain.specs.Refusals.{unfitAmount}
 use Rattle.grain.specs.declared.check.Verdict.{Verdict}
 use Rattle.grain.specs.declared.check.Verdict.the-variants.{Free}
 use Rattle.record.specs.Refusals.{unsound}
-use Rattle.record.specs.State.{Common, Product, Group, Record, groupOf, groupAt, productIn}
+use Rattle.record.specs.State.{Product, Group, Record, groupOf, groupAt}
 use Rattle.record.specs.Founding.{Start, isFitStart, founded}
 use Rattle.record.specs.Record.{Call, check, Answer, refused, opened, filed, ended, checked, step, stateAfter, answers}
 use Rattle.record.specs.History.{kept, SameFor}
-use Rattle.record.specs.Theorems.{after, historyOf, isRefusal, OneLevel, BetweenLimits, isWithin, checkAfter}
+use Rattle.record.specs.Theorems.{after, historyOf, isRefusal, BetweenLimits, isWithin, checkAfter}
 use Rattle.record.proofs.Proved.{theorems}
 use Rattle.book.specs.declared.Book.{Book}
 use Rattle.book.specs.Book.{viewProduct, viewGroup, viewCommon, view}

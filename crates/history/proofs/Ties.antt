@@ -1,9 +1,5 @@
 -- What each call's own contract says, as Rattle reads it, is the relation that the lists of calls are made of; and none asks anything.
-use Prim.Native.Nat.{ℕ}
-use mathlib.Core.List.{List}
 use denote.Ref.{now}
-use Rattle.record.specs.Founding.{Start}
-use Rattle.book.specs.declared.Book.{Book}
 use Rattle.book.specs.declared.founding.Founding.{Founding}
 use Rattle.book.specs.Founding.{Founds}
 use Rattle.opening.specs.declared.Opened.{Opened}

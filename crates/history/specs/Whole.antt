@@ -1,7 +1,7 @@
 -- Whole lists of openings, sheets, ends and checks, refused ones included, from a fresh book. proofs/Proved.antt has the proofs.
 use Prim.Native.Nat.{ℕ, _<_}
 use mathlib.Core.Path.{_≡_}
-use mathlib.Core.Bool.{Bool, true, not}
+use mathlib.Core.Bool.{true, not}
 use mathlib.Core.List.{List}
 use Rattle.grain.specs.Lists.{every}
 use Rattle.grain.specs.declared.check.Verdict.{Verdict}

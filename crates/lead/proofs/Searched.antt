@@ -14,14 +14,13 @@ use Rattle.grain.specs.Products.{firstOf}
 use Rattle.grain.proofs.Tests.{&&-left, &&-right, &&-both}
 use Rattle.record.specs.declared.Lead.{Lead}
 use Rattle.record.specs.Choices.{keep, concatMap, isSome}
-use Rattle.record.specs.State.{Product, sheetOr, settlementOn}
+use Rattle.record.specs.State.{Product, settlementOn}
 use Rattle.record.specs.End.{Move, productMoves, leading}
-use Rattle.sheets.specs.declared.Sheet.{Sheet}
-use Rattle.sheets.specs.Sheets.{contractsOf, sheetIn}
-use Rattle.sheets.proofs.Left.{counted}
+use Rattle.sheets.specs.Sheets.{contractsOf}
 use Rattle.book.specs.declared.Book.{Book}
 use Rattle.book.specs.Book.{limitIn, todayIn, lastIn, viewProduct}
 use Rattle.lead.specs.declared.Condition.{Condition}
+use Rattle.book.proofs.SheetsIn.{sheet-contracts}
 use Rattle.lead.specs.Lead.{meets, productsFrom, movesOf, Readable}
 use Rattle.lead.specs.Search.{countEarlier, changeMeets, meetsOn, nextOf}
 use Rattle.lead.proofs.Nexts.{Under, next-under}
@@ -35,15 +34,6 @@ lt-or-ge a b = go (ltb a b) refl
     go : (x : Bool) → ltb a b ≡ x → (a < b) ⊎ (b ≤ a)
     go true e = inl (ltb-true a b e)
     go false e = inr (ltb-false a b e)
-
--- a sheet that is not there has no contracts
-sheet-contracts : (s : Sheet) → s .len ≤ 16 → sheetOr (sheetIn s) ≡ contractsOf s
-unfolding sheetIn
-sheet-contracts s l = go (eqb (s .len) 0) refl
-  where
-    go : (x : Bool) → eqb (s .len) 0 ≡ x → sheetOr (sheetIn s) ≡ contractsOf s
-    go true e = rw (e, counted s l, eqb-true (s .len) 0 e)
-    go false e = rw e
 
 -- the moves of products that stand together
 module _ (moves : Product → List Move) (q : ℕ → Product) (v : Move) where
@@ -105,9 +95,9 @@ module _ (b : Book) (today left : ℕ) (condition : Condition) where
     has : (p m : ℕ) → p < 8 → hasMove g m (movesBy p) ≡ isMet p m
     unfolding isMet viewProduct
     has p m h =
-        let t = sheet-contracts (todayIn b p) (sound .today p h) in
+        let t = sheet-contracts (todayIn b p) in
         moves-of-month g spot (viewProduct b p) m (rw t (sound .ascending p h))
-        ∙ rw (t, sheet-contracts (lastIn b p) (sound .last p h))
+        ∙ rw (t, sheet-contracts (lastIn b p))
 
     listing : (p m : ℕ) → isMet p m ≡ true → isSome (settlementOn (contractsOf (todayIn b p)) m) ≡ true
     unfolding isMet meetsOn

@@ -1,8 +1,7 @@
 use borrow.Author.Needs.{needs}
-use native.Mathlib.Omega.{arith}
-use mathlib.Core.Path.{_≡_, sym, _∙_, ap}
-use mathlib.Core.Option.{some, none}
-use Prim.Native.Nat.{ℕ, _<_}
+use mathlib.Core.Path.{_≡_, sym, _∙_}
+use mathlib.Core.Option.{some}
+use Prim.Native.Nat.{_<_}
 use borrow.Author.Tests.{not-true, not-false}
 use Rattle.record.specs.State.{groupOf, groupAt}
 use Rattle.record.specs.Check.{listed}
@@ -11,25 +10,11 @@ use Rattle.book.specs.Book.{view}
 use Rattle.book.proofs.SoundFacts.{open-true, day-in}
 use Rattle.grain.specs.Prices.{isOnTick}
 use Rattle.grain.specs.Products.{tickOf}
-use Rattle.grain.specs.Spot.{isSpot}
 use Rattle.grain.specs.Check.{verdict}
-use Rattle.grain.specs.declared.check.Verdict.{Verdict}
 use Rattle.record.specs.State.{dayOf, isSpotOn, limitIn}
-use Rattle.record.specs.declared.Day.{Day}
-use Rattle.record.specs.Record.{checked, check}
-use Rattle.book.specs.Calls.{Steps}
 use Rattle.checking.proofs.Answers.{offered-product, not-offered, not-listed, bad-price, judged}
 use Rattle.checking.proofs.answer.Statement.{statement}
 use Rattle.checking.proofs.answer.Tie as tie
-use Rattle.checking.proofs.answer.Reads as reads
-use Rattle.checking.proofs.answer.Lts as lts
-use Rattle.book.proofs.contract_month.Reads as contract-month-reads
-use Rattle.book.proofs.limit_of.Reads as limit-of-reads
-use Rattle.checking.proofs.listed.Reads as listed-reads
-use Rattle.grain.proofs.judge.Reads as judge-reads
-use Rattle.grain.proofs.is_on_tick.Reads as is-on-tick-reads
-use Rattle.grain.proofs.tick.Reads as tick-reads
-use Rattle.grain.proofs.is_spot.Reads as is-spot-reads
 
 tick-requires : tie.Need-tick-requires
 tick-requires c κs = search needs

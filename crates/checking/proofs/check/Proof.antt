@@ -1,6 +1,5 @@
 use borrow.Author.Needs.{needs}
-use native.Mathlib.Omega.{arith}
-use mathlib.Core.Path.{_≡_, sym, _∙_}
+use mathlib.Core.Path.{sym, _∙_}
 use borrow.Author.Tests.{not-true, not-false}
 use Rattle.record.specs.Record.{check}
 use Rattle.record.specs.Refusals.{unsound}
@@ -10,10 +9,6 @@ use Rattle.book.proofs.Steps.{refused-steps}
 use Rattle.checking.proofs.Answers.{closed}
 use Rattle.checking.proofs.check.Statement.{statement}
 use Rattle.checking.proofs.check.Tie as tie
-use Rattle.checking.proofs.check.Reads as reads
-use Rattle.checking.proofs.check.Lts as lts
-use Rattle.book.proofs.is_sound.Reads as is-sound-reads
-use Rattle.checking.proofs.answer.Reads as answer-reads
 
 is-sound-requires : tie.Need-is-sound-requires
 is-sound-requires c κs = search needs

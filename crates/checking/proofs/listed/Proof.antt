@@ -1,6 +1,5 @@
 use borrow.Author.Needs.{needs}
-use native.Mathlib.Omega.{arith}
-use mathlib.Core.Path.{_≡_, sym, _∙_, ap}
+use mathlib.Core.Path.{sym, _∙_, ap}
 use Prim.Native.Nat.{_≤_}
 use Rattle.record.specs.State.{monthOf}
 use Rattle.sheets.specs.Sheets.{listedAs}
@@ -8,10 +7,6 @@ use Rattle.book.proofs.SoundFacts.{open-true, last-fits}
 use Rattle.checking.proofs.Listings.{listed-before, listed-from}
 use Rattle.checking.proofs.listed.Statement.{statement}
 use Rattle.checking.proofs.listed.Tie as tie
-use Rattle.checking.proofs.listed.Reads as reads
-use Rattle.checking.proofs.listed.Lts as lts
-use Rattle.book.proofs.contract_month.Reads as contract-month-reads
-use Rattle.sheets.proofs.find.Reads as find-reads
 
 contract-month-requires : tie.Need-contract-month-requires
 contract-month-requires c κs =

@@ -1,5 +1,4 @@
 use borrow.Author.Needs.{needs}
-use native.Mathlib.Omega.{arith}
 use mathlib.Core.Path.{_≡_, refl, sym, _∙_, ap}
 use mathlib.Core.List.{List}
 use mathlib.Core.Option.{Option, none}
@@ -17,11 +16,6 @@ use Rattle.filing.specs.Files.{earlyTests, contractTests}
 use Rattle.filing.proofs.Filings.{refused-early, refused-late, Early, early-none, early-facts, sheet-in}
 use Rattle.filing.proofs.sheet.Statement.{statement}
 use Rattle.filing.proofs.sheet.Tie as tie
-use Rattle.filing.proofs.sheet.Reads as reads
-use Rattle.filing.proofs.sheet.Lts as lts
-use Rattle.filing.proofs.refusals.contract_refusal.Reads as contract-refusal-reads
-use Rattle.filing.proofs.refusals.early_refusal.Reads as early-refusal-reads
-use Rattle.sheets.proofs.sheet_of.Reads as sheet-of-reads
 
 early-refusal-requires : tie.Need-early-refusal-requires
 early-refusal-requires c κs = search needs

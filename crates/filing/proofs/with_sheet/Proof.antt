@@ -1,5 +1,4 @@
 use borrow.Author.Needs.{needs}
-use native.Mathlib.Omega.{arith}
 use Prim.Native.Nat.{_<_}
 use mathlib.Core.Path.{_≡_}
 use lib.ListN.{length}
@@ -7,8 +6,6 @@ use Rattle.sheets.proofs.Left.{mapped}
 use Rattle.filing.proofs.Filings.{filed-view}
 use Rattle.filing.proofs.with_sheet.Statement.{statement}
 use Rattle.filing.proofs.with_sheet.Tie as tie
-use Rattle.filing.proofs.with_sheet.Reads as reads
-use Rattle.filing.proofs.with_sheet.Lts as lts
 
 mul-today : tie.Need-mul-today
 mul-today c = search needs

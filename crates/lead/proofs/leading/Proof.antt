@@ -10,10 +10,6 @@ use Rattle.lead.proofs.Searched.{isMet, Clear, ClearAt, clear-spot, cle
 use Rattle.lead.proofs.Nexts.{next-after}
 use Rattle.lead.proofs.leading.Statement.{statement}
 use Rattle.lead.proofs.leading.Tie as tie
-use Rattle.lead.proofs.leading.Reads as reads
-use Rattle.lead.proofs.leading.Lts as lts
-use Rattle.lead.proofs.months.next_month.Reads as next-month-reads
-use Rattle.lead.proofs.moves.meets_in.Reads as meets-in-reads
 
 abbrev Inv-loop : tie.InvT-loop
 Inv-loop today left condition lo hi b sheets month found₀ m p₀ found p =

@@ -1,10 +1,7 @@
 use borrow.Author.Needs.{needs}
-use native.Mathlib.Omega.{arith}
 use Rattle.book.proofs.Groups.{group-number}
 use Rattle.book.proofs.limits.group_of.Statement.{statement}
 use Rattle.book.proofs.limits.group_of.Tie as tie
-use Rattle.book.proofs.limits.group_of.Reads as reads
-use Rattle.book.proofs.limits.group_of.Lts as lts
 
 mul-result : tie.Need-mul-result
 mul-result c = search needs

@@ -1,13 +1,9 @@
 use borrow.Author.Needs.{needs}
 use native.Mathlib.Omega.{arith}
-use mathlib.Core.Path.{_≡_, sym, _∙_}
-use Prim.Native.Nat.{ℕ, _<_}
+use mathlib.Core.Path.{sym, _∙_}
 use Rattle.book.proofs.Groups.{group-small, limit-is}
 use Rattle.book.proofs.limits.limit_of.Statement.{statement}
 use Rattle.book.proofs.limits.limit_of.Tie as tie
-use Rattle.book.proofs.limits.limit_of.Reads as reads
-use Rattle.book.proofs.limits.limit_of.Lts as lts
-use Rattle.book.proofs.limits.group_of.Reads as group-of-reads
 
 mul-limit : tie.Need-mul-limit
 mul-limit c = search needs

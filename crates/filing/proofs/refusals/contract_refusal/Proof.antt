@@ -1,7 +1,6 @@
 use borrow.Author.Needs.{needs}
-use native.Mathlib.Omega.{arith}
 use mathlib.Core.Path.{_≡_, sym, _∙_}
-use mathlib.Core.Bool.{true, false}
+use mathlib.Core.Bool.{true}
 use borrow.Author.Tests.{not-true, not-false}
 use Rattle.grain.specs.Lists.{every}
 use Rattle.grain.specs.Prices.{isSettlement}
@@ -13,14 +12,6 @@ use Rattle.book.proofs.SoundFacts.{open-true, last-fits}
 use Rattle.filing.proofs.Contracts.{isSpotFor, wrongMonth, refused-7, refused-8, refused-9, refused-10, none-late}
 use Rattle.filing.proofs.refusals.contract_refusal.Statement.{statement}
 use Rattle.filing.proofs.refusals.contract_refusal.Tie as tie
-use Rattle.filing.proofs.refusals.contract_refusal.Reads as reads
-use Rattle.filing.proofs.refusals.contract_refusal.Lts as lts
-use Rattle.book.proofs.contract_month.Reads as contract-month-reads
-use Rattle.book.proofs.limit_of.Reads as limit-of-reads
-use Rattle.filing.proofs.refusals.has_bad_month.Reads as has-bad-month-reads
-use Rattle.sheets.proofs.is_beyond.Reads as is-beyond-reads
-use Rattle.sheets.proofs.lacks_contract.Reads as lacks-contract-reads
-use Rattle.sheets.proofs.are_settlements.Reads as are-settlements-reads
 
 cast-product : tie.Need-cast-product
 cast-product c = search needs

@@ -1,5 +1,4 @@
 use borrow.Author.Needs.{needs}
-use native.Mathlib.Omega.{arith}
 use mathlib.Core.Path.{_≡_, sym, _∙_}
 use mathlib.Core.Bool.{true}
 use Prim.Native.Nat.{_<_}
@@ -11,11 +10,6 @@ use Rattle.book.specs.Book.{view}
 use Rattle.filing.proofs.EarlyTests.{refused-1, refused-2, refused-5, refused-11, refused-6, none-early}
 use Rattle.filing.proofs.refusals.early_refusal.Statement.{statement}
 use Rattle.filing.proofs.refusals.early_refusal.Tie as tie
-use Rattle.filing.proofs.refusals.early_refusal.Reads as reads
-use Rattle.filing.proofs.refusals.early_refusal.Lts as lts
-use Rattle.book.proofs.is_sound.Reads as is-sound-reads
-use Rattle.grain.proofs.is_product.Reads as is-product-reads
-use Rattle.sheets.proofs.is_misshapen.Reads as is-misshapen-reads
 
 is-sound-requires : tie.Need-is-sound-requires
 is-sound-requires c κs = search needs

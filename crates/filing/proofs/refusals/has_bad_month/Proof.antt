@@ -1,15 +1,9 @@
 use borrow.Author.Needs.{needs}
-use native.Mathlib.Omega.{arith}
-use mathlib.Core.Path.{_≡_, sym, _∙_}
+use mathlib.Core.Path.{sym, _∙_}
 use borrow.Author.Tests.{not-true, not-false}
 use Rattle.grain.specs.Lists.{_and_}
 use Rattle.filing.proofs.refusals.has_bad_month.Statement.{statement}
 use Rattle.filing.proofs.refusals.has_bad_month.Tie as tie
-use Rattle.filing.proofs.refusals.has_bad_month.Reads as reads
-use Rattle.filing.proofs.refusals.has_bad_month.Lts as lts
-use Rattle.sheets.proofs.are_traded.Reads as are-traded-reads
-use Rattle.sheets.proofs.is_ascending.Reads as is-ascending-reads
-use Rattle.sheets.proofs.starts_from.Reads as starts-from-reads
 
 is-ascending-requires : tie.Need-is-ascending-requires
 is-ascending-requires c κs = search needs

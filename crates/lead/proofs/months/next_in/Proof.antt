@@ -8,9 +8,6 @@ use Rattle.sheets.proofs.Left.{mapped, left-next, left-end}
 use Rattle.lead.specs.Search.{nextIn}
 use Rattle.lead.proofs.months.next_in.Statement.{statement}
 use Rattle.lead.proofs.months.next_in.Tie as tie
-use Rattle.lead.proofs.months.next_in.Reads as reads
-use Rattle.lead.proofs.months.next_in.Lts as lts
-use Rattle.lead.proofs.months.sooner_of.Reads as sooner-of-reads
 
 abbrev Inv-loop : tie.InvT-loop
 Inv-loop after best s n next₀ i₀ next i =

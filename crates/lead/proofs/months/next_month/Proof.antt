@@ -7,9 +7,6 @@ use Rattle.lead.specs.Search.{nextOf}
 use Rattle.lead.proofs.Products.{products-next, products-end}
 use Rattle.lead.proofs.months.next_month.Statement.{statement}
 use Rattle.lead.proofs.months.next_month.Tie as tie
-use Rattle.lead.proofs.months.next_month.Reads as reads
-use Rattle.lead.proofs.months.next_month.Lts as lts
-use Rattle.lead.proofs.months.next_in.Reads as next-in-reads
 
 abbrev Inv-loop : tie.InvT-loop
 Inv-loop lo hi after sheets next₀ p₀ next p =

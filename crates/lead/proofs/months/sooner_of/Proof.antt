@@ -2,8 +2,6 @@ use borrow.Author.Tests.{eq-eqb, ne-eqb, lt-ltb, le-ltb}
 use Rattle.lead.specs.Search.{sooner}
 use Rattle.lead.proofs.months.sooner_of.Statement.{statement}
 use Rattle.lead.proofs.months.sooner_of.Tie as tie
-use Rattle.lead.proofs.months.sooner_of.Reads as reads
-use Rattle.lead.proofs.months.sooner_of.Lts as lts
 
 returns : tie.Need-returns
 unfolding sooner

@@ -10,9 +10,6 @@ use Rattle.lead.specs.Search.{countEarlier}
 use Rattle.lead.proofs.Earlier.{at-most-one}
 use Rattle.lead.proofs.moves.count_earlier.Statement.{statement}
 use Rattle.lead.proofs.moves.count_earlier.Tie as tie
-use Rattle.lead.proofs.moves.count_earlier.Reads as reads
-use Rattle.lead.proofs.moves.count_earlier.Lts as lts
-use Rattle.lead.proofs.moves.one_if_earlier.Reads as one-if-earlier-reads
 
 abbrev Inv-loop : tie.InvT-loop
 Inv-loop month today left s n count₀ i₀ count i =

@@ -12,13 +12,6 @@ use Rattle.sheets.proofs.Lookups.{is-none, is-some}
 use Rattle.lead.specs.Search.{countEarlier, meetsOn}
 use Rattle.lead.proofs.moves.meets_in.Statement.{statement}
 use Rattle.lead.proofs.moves.meets_in.Tie as tie
-use Rattle.lead.proofs.moves.meets_in.Reads as reads
-use Rattle.lead.proofs.moves.meets_in.Lts as lts
-use Rattle.grain.proofs.first_contracts.Reads as first-contracts-reads
-use Rattle.grain.proofs.is_spot.Reads as is-spot-reads
-use Rattle.lead.proofs.moves.count_earlier.Reads as count-earlier-reads
-use Rattle.sheets.proofs.distance.Reads as distance-reads
-use Rattle.sheets.proofs.find.Reads as find-reads
 
 not-spot : (k : tie.After-find) → let a = k .before .before .before .args in isSpot (a .month) (a .today) (a .left) ≡ false
 not-spot k = sym (k .before .before .is-spot .ensures) ∙ k .before .if1 .left

@@ -4,9 +4,6 @@ use borrow.Author.Tests.{lt-ltb, le-ltb}
 use Rattle.lead.specs.Search.{oneIfEarlier}
 use Rattle.lead.proofs.moves.one_if_earlier.Statement.{statement}
 use Rattle.lead.proofs.moves.one_if_earlier.Tie as tie
-use Rattle.lead.proofs.moves.one_if_earlier.Reads as reads
-use Rattle.lead.proofs.moves.one_if_earlier.Lts as lts
-use Rattle.grain.proofs.is_spot.Reads as is-spot-reads
 
 is-spot-requires : tie.Need-is-spot-requires
 is-spot-requires c κs = search needs
