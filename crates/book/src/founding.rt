@@ -1,6 +1,6 @@
 // A fresh book, from eight initial limits.
 ghost use mathlib.Core.Path.{_≡_};
-ghost use Rattle.record.specs.Founding.{Start, isFitStart, founded};
+ghost use Rattle.record.specs.Founding.{isFitStart, founded};
 ghost use Rattle.book.specs.Book.{view};
 ghost use Rattle.book.specs.Founding.{noBook, Founds};
 use crate::Book;

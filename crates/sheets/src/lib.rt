@@ -1,5 +1,5 @@
 // One product's sheet: look-up, and the tests over its contracts. The leaves of the book.
-// These functions are exported for the book alone; most ask for a count of at most 16, which the book tests first.
+// These functions are exported for the calls on a book; most ask for a count of at most 16, which a sound book has.
 use record::Contract;
 
 mod changes;
