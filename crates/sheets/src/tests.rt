@@ -27,10 +27,11 @@ pub fn are_settlements(product: u32, s: Sheet) -> bool
     requires { ⌜ s .len ≤ 16 ⌝ }
     ensures { λ r. ⌜ r ≡ every (isSettlement product) (settlementsOf (contractsOf s)) ⌝ }
 {
+    let tick = grain::tick(product, 0);
     let n = s.len;
     for i in 0..n {
         let c = s.contracts[i];
-        if !grain::is_settlement(product, c.settlement) {
+        if !grain::is_on_tick(tick, c.settlement) {
             return false;
         }
     }

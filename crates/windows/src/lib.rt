@@ -86,10 +86,10 @@ pub fn is_sound(w: Windows, p: usize) -> bool
         return false;
     }
     let at = 45 * p;
-    let product = p as u32;
+    let tick = grain::tick(p as u32, 0);
     let mut i = 0;
     while i < n {
-        if !grain::is_settlement(product, w.settlements[at + i]) {
+        if !grain::is_on_tick(tick, w.settlements[at + i]) {
             return false;
         }
         i += 1;

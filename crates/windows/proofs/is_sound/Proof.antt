@@ -13,11 +13,11 @@ use Rattle.windows.proofs.is_sound.Statement.{statement}
 use Rattle.windows.proofs.is_sound.Tie as tie
 
 abbrev Inv-loop : tie.InvT-loop
-Inv-loop p w n at product i₀ i =
+Inv-loop p w n at tick i₀ i =
     (i ≤ n) × ((leb (length (windowOf w p)) 45 and every (isSettlement p) (windowOf w p)) ≡ every (isSettlement p) (drop i (windowOf w p)))
 
 abbrev μ-loop : tie.MeasureT-loop
-μ-loop p w n at product i₀ i = n - i
+μ-loop p w n at tick i₀ i = n - i
 
 mul-n : tie.Need-mul-n Inv-loop μ-loop
 mul-n c = search needs
@@ -32,31 +32,34 @@ returns c = let a = c .before .before .args in rw (too-long (a .t1) (a .p) (sear
 mul-at : tie.Need-mul-at Inv-loop μ-loop
 mul-at c = search needs
 
-cast-product : tie.Need-cast-product Inv-loop μ-loop
-cast-product c = search needs
+cast-tick : tie.Need-cast-tick Inv-loop μ-loop
+cast-tick c = search needs
+
+tick-requires : tie.Need-tick-requires Inv-loop μ-loop
+tick-requires c κs = search needs
 
 loop-holds : tie.Need-loop-holds Inv-loop μ-loop
 loop-holds c =
-    let a = c .before .before .args in
+    let a = c .before .before .before .args in
     (search needs, entries-start (a .t1) (a .p) (search needs) (search needs) (search needs) (isSettlement (a .p)))
 
-add-is-settlement : tie.Need-add-is-settlement Inv-loop μ-loop
-add-is-settlement c = search needs
+add-is-on-tick : tie.Need-add-is-on-tick Inv-loop μ-loop
+add-is-on-tick c = search needs
 
-mul-is-settlement : tie.Need-mul-is-settlement Inv-loop μ-loop
-mul-is-settlement c = search needs
+mul-is-on-tick : tie.Need-mul-is-on-tick Inv-loop μ-loop
+mul-is-on-tick c = search needs
 
-element-copy-out-is-settlement : tie.Need-element-copy-out-is-settlement Inv-loop μ-loop
-element-copy-out-is-settlement c = search needs
+element-copy-out-is-on-tick : tie.Need-element-copy-out-is-on-tick Inv-loop μ-loop
+element-copy-out-is-on-tick c = search needs
 
-is-settlement-requires : tie.Need-is-settlement-requires Inv-loop μ-loop
-is-settlement-requires c κs = search needs
+is-on-tick-requires : tie.Need-is-on-tick-requires Inv-loop μ-loop
+is-on-tick-requires c κs = search needs
 
 returns-2 : tie.Need-returns-2 Inv-loop μ-loop
 returns-2 c =
     let k = c .before .before .before .before in
-    let a = k .before .before .before .args in
-    let fails = sym (c .before .is-settlement .ensures) ∙ not-true _ (c .if2 .taken) in
+    let a = k .before .before .before .before .args in
+    let fails = sym (rw (k .before .tick .ensures) at (c .before .is-on-tick .ensures)) ∙ not-true _ (c .if2 .taken) in
     sym (k .loop .inv .1 ∙ entry-fails (a .t1) (a .p) (search needs) (search needs) (search needs) _ (k .loop .i) (search needs) fails)
 
 add-i : tie.Need-add-i Inv-loop μ-loop
@@ -68,14 +71,14 @@ loop-less c = search needs
 loop-again : tie.Need-loop-again Inv-loop μ-loop
 loop-again c =
     let k = c .before .before .before .before in
-    let a = k .before .before .before .args in
-    let passes = sym (c .before .is-settlement .ensures) ∙ not-false _ (c .if2 .left) in
+    let a = k .before .before .before .before .args in
+    let passes = sym (rw (k .before .tick .ensures) at (c .before .is-on-tick .ensures)) ∙ not-false _ (c .if2 .left) in
     (search needs, k .loop .inv .1 ∙ entry-passes (a .t1) (a .p) (search needs) (search needs) (search needs) _ (k .loop .i) (search needs) passes)
 
 returns-3 : tie.Need-returns-3 Inv-loop μ-loop
 returns-3 c =
     let k = c .before in
-    let a = k .before .before .before .args in
+    let a = k .before .before .before .before .args in
     sym (k .loop .inv .1 ∙ entries-end (a .t1) (a .p) (search needs) (search needs) (search needs) _ (k .loop .i) (search needs))
 
 pub is-sound-spec : {M : Type 1} → statement M
@@ -88,12 +91,13 @@ is-sound-spec =
     element-copy-out-n
     returns
     mul-at
-    cast-product
+    cast-tick
+    tick-requires
     loop-holds
-    add-is-settlement
-    mul-is-settlement
-    element-copy-out-is-settlement
-    is-settlement-requires
+    add-is-on-tick
+    mul-is-on-tick
+    element-copy-out-is-on-tick
+    is-on-tick-requires
     returns-2
     add-i
     loop-less

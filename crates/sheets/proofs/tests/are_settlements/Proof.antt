@@ -12,15 +12,18 @@ use Rattle.sheets.proofs.tests.are_settlements.Statement.{statement}
 use Rattle.sheets.proofs.tests.are_settlements.Tie as tie
 use Rattle.sheets.proofs.tests.are_settlements.Reads as reads
 use Rattle.sheets.proofs.tests.are_settlements.Lts as lts
-use Rattle.grain.proofs.is_settlement.Reads as is-settlement-reads
+use Rattle.grain.proofs.is_on_tick.Reads as is-on-tick-reads
 
 abbrev Inv-loop : tie.InvT-loop
-Inv-loop product s n i₀ i =
+Inv-loop product s tick n i₀ i =
     (i ≤ n)
     × (every (isSettlement product) (settlementsOf (contractsOf s)) ≡ every (isSettlement product) (settlementsOf (drop i (contractsOf s))))
 
 abbrev μ-loop : tie.MeasureT-loop
-μ-loop product s n i₀ i = n - i
+μ-loop product s tick n i₀ i = n - i
+
+tick-requires : tie.Need-tick-requires Inv-loop μ-loop
+tick-requires c κs = search needs
 
 loop-holds : tie.Need-loop-holds Inv-loop μ-loop
 loop-holds c = search needs
@@ -31,16 +34,16 @@ mul-c c = search needs
 element-copy-out-c : tie.Need-element-copy-out-c Inv-loop μ-loop
 element-copy-out-c c = search needs
 
-is-settlement-requires : tie.Need-is-settlement-requires Inv-loop μ-loop
-is-settlement-requires c κs = search needs
+is-on-tick-requires : tie.Need-is-on-tick-requires Inv-loop μ-loop
+is-on-tick-requires c κs = search needs
 
 returns : tie.Need-returns Inv-loop μ-loop
 returns c =
     let k = c .before .before .before .before in
-    let no = sym (c .before .is-settlement .ensures) ∙ not-true _ (c .if1 .taken) in
+    let no = sym (rw (k .before .tick .ensures) at (c .before .is-on-tick .ensures)) ∙ not-true _ (c .if1 .taken) in
     sym
     (k .loop .inv .1
-    ∙ every-fails (k .before .args .t2) (k .loop .i) (search mapped) (omega arith) (omega arith) _ (λ c. c .settlement) no)
+    ∙ every-fails (k .before .before .args .t2) (k .loop .i) (search mapped) (omega arith) (omega arith) _ (λ c. c .settlement) no)
 
 add-i : tie.Need-add-i Inv-loop μ-loop
 add-i c = search needs
@@ -51,16 +54,16 @@ loop-less c = search needs
 loop-again : tie.Need-loop-again Inv-loop μ-loop
 loop-again c =
     let k = c .before .before .before .before in
-    let yes = sym (c .before .is-settlement .ensures) ∙ not-false _ (c .if1 .left) in (
+    let yes = sym (rw (k .before .tick .ensures) at (c .before .is-on-tick .ensures)) ∙ not-false _ (c .if1 .left) in (
       omega arith,
       k .loop .inv .1
-          ∙ every-goes-on (k .before .args .t2) (k .loop .i) (search mapped) (omega arith) (omega arith) _ (λ c. c .settlement) yes,
+          ∙ every-goes-on (k .before .before .args .t2) (k .loop .i) (search mapped) (omega arith) (omega arith) _ (λ c. c .settlement) yes,
     )
 
 returns-2 : tie.Need-returns-2 Inv-loop μ-loop
 returns-2 c =
     let k = c .before in
-    sym (k .loop .inv .1 ∙ every-end (k .before .args .t2) (k .loop .i) (omega arith) (omega arith) _ (λ c. c .settlement))
+    sym (k .loop .inv .1 ∙ every-end (k .before .before .args .t2) (k .loop .i) (omega arith) (omega arith) _ (λ c. c .settlement))
 
 pub are-settlements-spec : {M : Type 1} → statement M
 are-settlements-spec =
@@ -68,10 +71,11 @@ are-settlements-spec =
     (tie.spec
     Inv-loop
     μ-loop
+    tick-requires
     loop-holds
     mul-c
     element-copy-out-c
-    is-settlement-requires
+    is-on-tick-requires
     returns
     add-i
     loop-less
