@@ -1,5 +1,5 @@
 /*
- * The bare check: may an order have this price today?
+ * The bare check: may an order have this price today? Alone, or through a tally that counts the answers.
  *
  * Link with the archive libgateway.a, which needs nothing else:
  *
@@ -34,6 +34,20 @@
 #define BOTSKHELA_NO_SUCH_PRODUCT 5u  /* no such product, or no such size of it     */
 #define BOTSKHELA_BAD_PRICE       8u  /* price or settlement out of range, off tick */
 #define BOTSKHELA_UNFIT_AMOUNT    13u /* the amount cannot be a limit               */
+
+/* Refusals of a tally itself. They come before those above, and change nothing. */
+#define BOTSKHELA_UNSOUND    1u  /* asked is not the sum of the other five */
+#define BOTSKHELA_TALLY_FULL 15u /* asked is 4,294,967,295                 */
+
+/* A gateway's record. It begins with six zeros; only botskhela_tallied_check writes it. */
+typedef struct botskhela_tally {
+    uint32_t asked; /* the number of checks: the sum of the other five */
+    uint32_t free;
+    uint32_t within;
+    uint32_t below;
+    uint32_t above;
+    uint32_t refused;
+} botskhela_tally;
 
 #ifdef __cplusplus
 extern "C" {
@@ -71,6 +85,19 @@ extern "C" {
  */
 uint32_t botskhela_bare_check(uint32_t product, uint32_t size, uint32_t settlement,
                               uint32_t amount, uint32_t spot, uint32_t price);
+
+/*
+ * The same check through a tally, which is not null.
+ *
+ * Returns BOTSKHELA_UNSOUND, then BOTSKHELA_TALLY_FULL, where one applies, and leaves the
+ * tally as it is. Otherwise it returns what botskhela_bare_check returns, and counts it: one
+ * more asked, and one more of free, within, below, above or, for a refusal, refused.
+ *
+ * A tally may be used by one call at a time.
+ */
+uint32_t botskhela_tallied_check(botskhela_tally *tally, uint32_t product, uint32_t size,
+                                 uint32_t settlement, uint32_t amount, uint32_t spot,
+                                 uint32_t price);
 
 #ifdef __cplusplus
 }

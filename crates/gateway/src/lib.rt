@@ -1,10 +1,14 @@
-// What C programs call: the bare check, on plain numbers.
+// What C programs call: the bare check, on plain numbers, and through a tally.
 ghost use mathlib.Core.Path.{_≡_};
 ghost use Rattle.gateway.specs.Bare.{verdictNumber, answerNumber, bareAnswer, bareCheck};
 use grain::Verdict;
 use grain::refusals::BAD_PRICE;
 use grain::refusals::NO_SUCH_PRODUCT;
 use grain::refusals::UNFIT_AMOUNT;
+
+mod tallied;
+
+pub use tallied::botskhela_tallied_check;
 
 pub enum BareAnswer {
     Is(Verdict),
