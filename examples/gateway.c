@@ -1,5 +1,5 @@
 /*
- * A small gateway: reads orders from standard input and accepts or rejects each.
+ * A small gateway: reads orders from standard input, accepts or rejects each, and prints its tally at the end.
  *
  *     gcc -Iinclude examples/gateway.c target/staticlib/libgateway.a -o gateway
  *     ./gateway < examples/orders.txt
@@ -7,6 +7,7 @@
  * An order is a line PRODUCT SIZE SETTLEMENT AMOUNT SPOT PRICE of decimal numbers.
  * Blank lines and lines that begin with # are passed over.
  */
+#include <inttypes.h>
 #include <stdint.h>
 #include <stdio.h>
 #include <string.h>
@@ -91,23 +92,35 @@ static const char *decision(uint32_t answer)
         return "reject price or settlement";
     case BOTSKHELA_UNFIT_AMOUNT:
         return "reject amount";
+    case BOTSKHELA_UNSOUND:
+        return "reject tally damaged";
+    case BOTSKHELA_TALLY_FULL:
+        return "reject tally full";
     default:
         return "reject unknown answer";
     }
 }
 
-static const char *judge(const char *line)
+static const char *judge(botskhela_tally *tally, const char *line)
 {
     uint32_t order[ORDER_NUMBERS];
 
     if (!read_order(line, order))
         return "reject not an order";
-    return decision(botskhela_bare_check(order[0], order[1], order[2], order[3], order[4],
-                                         order[5]));
+    return decision(botskhela_tallied_check(tally, order[0], order[1], order[2], order[3],
+                                            order[4], order[5]));
+}
+
+static void print_tally(const botskhela_tally *tally)
+{
+    printf("asked %" PRIu32 ": free %" PRIu32 ", within %" PRIu32 ", below %" PRIu32
+           ", above %" PRIu32 ", refused %" PRIu32 "\n",
+           tally->asked, tally->free, tally->within, tally->below, tally->above, tally->refused);
 }
 
 int main(void)
 {
+    botskhela_tally tally = {0, 0, 0, 0, 0, 0};
     char line[LONGEST_LINE + 1];
     enum line outcome;
 
@@ -119,7 +132,8 @@ int main(void)
             continue;
         }
         if (*skip_blanks(line) != '\0')
-            puts(judge(line));
+            puts(judge(&tally, line));
     }
+    print_tally(&tally);
     return ferror(stdin) || fflush(stdout) != 0 || ferror(stdout);
 }

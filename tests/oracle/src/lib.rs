@@ -9,4 +9,5 @@ pub mod prices;
 pub mod products;
 pub mod refusal;
 pub mod season;
+pub mod tally;
 pub mod testing;
