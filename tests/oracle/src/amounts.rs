@@ -5,6 +5,9 @@ use crate::products::Product;
 /// No limit is above this.
 pub const LARGEST_LIMIT: u32 = 2_000_000;
 
+/// No founding limit is above this.
+pub const LARGEST_FOUNDING: u32 = 1_000_000;
+
 /// How many settlements make a season limit.
 pub const SEASON_DAYS: u32 = 45;
 
@@ -29,6 +32,11 @@ pub fn season_limit(product: &Product, sum: u64) -> u32 {
 pub fn fits(product: &Product, amount: u32) -> bool {
     let in_range = (product.floor..=LARGEST_LIMIT).contains(&amount);
     in_range && amount.is_multiple_of(product.step)
+}
+
+/// Whether an amount can be the initial limit of the product in a new book.
+pub fn fits_founding(product: &Product, amount: u32) -> bool {
+    fits(product, amount) && amount <= LARGEST_FOUNDING
 }
 
 #[cfg(test)]

@@ -51,6 +51,19 @@ impl Date {
         self.year * 10_000 + self.month * 100 + self.day
     }
 
+    pub fn year(self) -> u32 {
+        self.year
+    }
+
+    /// From 1 to 12.
+    pub fn month(self) -> u32 {
+        self.month
+    }
+
+    pub fn day(self) -> u32 {
+        self.day
+    }
+
     /// The day after, unless the calendar ends here.
     pub fn next(self) -> Option<Date> {
         Date::new(self.year, self.month, self.day + 1)

@@ -4,7 +4,9 @@
 
 pub mod amounts;
 pub mod bare;
+pub mod book;
 pub mod dates;
+pub mod history;
 pub mod prices;
 pub mod products;
 pub mod refusal;

@@ -94,6 +94,11 @@ impl Product {
             _ => None,
         }
     }
+
+    /// Whether contracts of this month, counted year × 12 + month − 1, are traded.
+    pub fn trades(&self, contract_month: u32) -> bool {
+        self.months.contains(&(contract_month % 12 + 1))
+    }
 }
 
 #[cfg(test)]
@@ -117,6 +122,15 @@ mod tests {
             .collect();
         assert_eq!(minis, ["Corn", "Soybeans", "Chicago Wheat"]);
         assert!(PRODUCTS.iter().all(|row| row.tick(2).is_none()));
+    }
+
+    #[test]
+    fn the_last_contract_months_of_32_bits() {
+        let corn = &PRODUCTS[0];
+        assert!(corn.trades(4_294_967_294));
+        assert!(!corn.trades(4_294_967_295));
+        assert!(corn.trades(2024 * 12 + 11));
+        assert!(!corn.trades(2024 * 12 + 10));
     }
 
     #[test]

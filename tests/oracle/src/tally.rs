@@ -91,7 +91,10 @@ mod tests {
 
     #[test]
     fn a_tally_that_does_not_add_up_is_left_alone() {
-        let damaged = Tally { asked: 1, ..Tally::default() };
+        let damaged = Tally {
+            asked: 1,
+            ..Tally::default()
+        };
         let mut tally = damaged;
         assert_eq!(tally.check(&Order::from(WITHIN)), 1);
         assert_eq!(tally, damaged);
@@ -99,7 +102,11 @@ mod tests {
 
     #[test]
     fn a_full_tally_refuses_and_unsound_comes_first() {
-        let full = Tally { asked: u32::MAX, free: u32::MAX, ..Tally::default() };
+        let full = Tally {
+            asked: u32::MAX,
+            free: u32::MAX,
+            ..Tally::default()
+        };
         let mut tally = full;
         assert_eq!(tally.check(&Order::from(WITHIN)), 15);
         assert_eq!(tally, full);
@@ -109,7 +116,12 @@ mod tests {
 
     #[test]
     fn a_sum_that_wraps_in_32_bits_is_unsound() {
-        let mut tally = Tally { asked: 1, free: u32::MAX, above: 2, ..Tally::default() };
+        let mut tally = Tally {
+            asked: 1,
+            free: u32::MAX,
+            above: 2,
+            ..Tally::default()
+        };
         assert_eq!(tally.check(&Order::from(WITHIN)), 1);
     }
 }

@@ -1,20 +1,23 @@
-//! The second implementation on the command line: `oracle season` and `oracle bare`.
+//! The second implementation on the command line: `oracle season`, `bare` and `replay`.
 
 use std::io::{self, BufRead, Read, Write};
 use std::process::ExitCode;
 
 use oracle::bare::{self, Order};
+use oracle::history::replay::replay;
 use oracle::season;
 
-const USAGE: &str = "usage: oracle season < FILE | oracle bare < LINES
+const USAGE: &str = "usage: oracle season < FILE | oracle bare < LINES | oracle replay < HISTORY
 season  a season file on standard input; writes its line
-bare    lines PRODUCT SIZE SETTLEMENT AMOUNT SPOT PRICE; writes a number for each";
+bare    lines PRODUCT SIZE SETTLEMENT AMOUNT SPOT PRICE; writes a number for each
+replay  a history of calls; writes a line for each";
 
 fn main() -> ExitCode {
     let command = std::env::args().nth(1).unwrap_or_default();
     let outcome = match command.as_str() {
         "season" => answer_season(),
         "bare" => answer_bare(),
+        "replay" => replay(io::stdin().lock(), io::stdout().lock()),
         _ => Err(io::Error::other(USAGE)),
     };
     match outcome {

@@ -3,6 +3,8 @@
 pub mod case;
 pub mod damage;
 pub mod draw;
+pub mod history;
 pub mod program;
 pub mod random;
 pub mod score;
+pub mod workers;

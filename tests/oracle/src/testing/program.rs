@@ -7,11 +7,30 @@ use std::sync::mpsc::{self, Receiver};
 use std::thread;
 use std::time::Duration;
 
-/// A program that has not ended by then never will.
-const PATIENCE: Duration = Duration::from_secs(10);
+/// What a program may take and write, and how it must end.
+#[derive(Clone, Copy)]
+pub struct Bounds {
+    /// A program that has not ended by then never will.
+    pub patience: Duration,
+    /// No answer is longer; a program that writes without end is cut off here.
+    pub longest_output: u64,
+    /// Whether it must end with status 0.
+    pub needs_success: bool,
+}
 
-/// No answer is longer; a program that writes without end is cut off here.
-const LONGEST_OUTPUT: u64 = 4_096;
+/// For a program that answers one line; the rule sets it no exit status.
+pub const OF_ONE_LINE: Bounds = Bounds {
+    patience: Duration::from_secs(10),
+    longest_output: 4_096,
+    needs_success: false,
+};
+
+/// For a program that answers histories.
+pub const OF_HISTORIES: Bounds = Bounds {
+    patience: Duration::from_secs(60),
+    longest_output: 1 << 28,
+    needs_success: true,
+};
 
 /// How an input comes down the pipe.
 #[derive(Clone, Copy)]
@@ -23,13 +42,19 @@ pub enum Delivery {
 
 pub struct Program {
     path: PathBuf,
+    bounds: Bounds,
     has_hung: bool,
 }
 
 impl Program {
     pub fn new(path: &Path) -> Program {
+        Program::within(path, OF_ONE_LINE)
+    }
+
+    pub fn within(path: &Path, bounds: Bounds) -> Program {
         Program {
             path: path.to_path_buf(),
+            bounds,
             has_hung: false,
         }
     }
@@ -40,7 +65,7 @@ impl Program {
         if self.has_hung {
             return Err("the program is not run again, since it hung before".to_string());
         }
-        let outcome = run(&self.path, input, delivery);
+        let outcome = run(&self.path, self.bounds, input, delivery);
         if let Err(error) = &outcome {
             self.has_hung = error.kind() == io::ErrorKind::TimedOut;
         }
@@ -48,19 +73,19 @@ impl Program {
     }
 }
 
-fn run(path: &Path, input: &[u8], delivery: Delivery) -> io::Result<Vec<u8>> {
+fn run(path: &Path, bounds: Bounds, input: &[u8], delivery: Delivery) -> io::Result<Vec<u8>> {
     let (reader, writer) = io::pipe()?;
     let mut child = start(path, writer)?;
     let stdin = child.stdin.take().expect("standard input is piped");
     let (done, wait) = mpsc::channel();
     thread::scope(|scope| {
         let feeder = scope.spawn(move || feed(stdin, input, delivery));
-        let watcher = scope.spawn(move || watch(child, wait));
-        let output = read(reader);
+        let watcher = scope.spawn(move || watch(child, wait, bounds));
+        let output = read(reader, bounds);
         drop(done);
         let status = watcher.join().expect("the watcher does not panic")?;
         feeder.join().expect("the feeder does not panic")?;
-        judge(status)?;
+        judge(status, bounds)?;
         output
     })
 }
@@ -95,15 +120,17 @@ fn write(stdin: &mut ChildStdin, input: &[u8], delivery: Delivery) -> io::Result
     Ok(())
 }
 
-fn read(reader: PipeReader) -> io::Result<Vec<u8>> {
+fn read(reader: PipeReader, bounds: Bounds) -> io::Result<Vec<u8>> {
     let mut output = Vec::new();
-    reader.take(LONGEST_OUTPUT).read_to_end(&mut output)?;
+    reader
+        .take(bounds.longest_output)
+        .read_to_end(&mut output)?;
     Ok(output)
 }
 
 /// Waits for the program; ends it where its output has not ended in time.
-fn watch(mut child: Child, wait: Receiver<()>) -> io::Result<ExitStatus> {
-    let hangs = wait.recv_timeout(PATIENCE) == Err(mpsc::RecvTimeoutError::Timeout);
+fn watch(mut child: Child, wait: Receiver<()>, bounds: Bounds) -> io::Result<ExitStatus> {
+    let hangs = wait.recv_timeout(bounds.patience) == Err(mpsc::RecvTimeoutError::Timeout);
     if !hangs {
         return child.wait();
     }
@@ -112,10 +139,11 @@ fn watch(mut child: Child, wait: Receiver<()>) -> io::Result<ExitStatus> {
     Err(io::Error::from(io::ErrorKind::TimedOut))
 }
 
-/// The rule sets no exit status, but a program that a signal ended has failed.
-fn judge(status: ExitStatus) -> io::Result<()> {
+/// A program that a signal ended has failed, whatever status it may have.
+fn judge(status: ExitStatus, bounds: Bounds) -> io::Result<()> {
     match status.code() {
-        Some(_) => Ok(()),
-        None => Err(io::Error::other(status.to_string())),
+        Some(0) => Ok(()),
+        Some(_) if !bounds.needs_success => Ok(()),
+        _ => Err(io::Error::other(status.to_string())),
     }
 }

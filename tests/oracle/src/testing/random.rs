@@ -30,6 +30,17 @@ impl Random {
         choices[self.below(choices.len())]
     }
 
+    /// A number from `low` to `high`, both included.
+    pub fn between(&mut self, low: u32, high: u32) -> u32 {
+        low + self.below((high - low) as usize + 1) as u32
+    }
+
+    pub fn shuffle<T>(&mut self, items: &mut [T]) {
+        for place in (1..items.len()).rev() {
+            items.swap(place, self.below(place + 1));
+        }
+    }
+
     pub fn one_in(&mut self, chances: usize) -> bool {
         self.below(chances) == 0
     }

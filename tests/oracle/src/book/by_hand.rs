@@ -1,0 +1,88 @@
+//! Days by hand in June 2024, for the tests of the book.
+
+use super::end::Event;
+use super::{Book, GROUP_COUNT};
+use crate::products::PRODUCTS;
+
+pub const CORN: usize = 0;
+pub const SOYBEANS: usize = 1;
+pub const OIL: usize = 2;
+pub const MEAL: usize = 3;
+pub const OATS: usize = 6;
+
+/// July 2024, the first contract of each sheet.
+pub const JULY: u32 = 2024 * 12 + 6;
+
+/// Every contract settles here on the first day.
+pub const FIRST_SETTLEMENT: u32 = 6_000;
+
+pub const LIMITS: [u32; 8] = [200, 400, 200, 200, 240, 240, 160, 100];
+
+/// A product, the place of a contract on its sheet, and its change.
+pub type Change = (usize, usize, i64);
+
+/// A book and the day of June that comes next.
+pub struct Trial {
+    pub book: Book,
+    pub next_day: u32,
+    /// Each product's contracts, with July 2024 first.
+    pub months: Vec<Vec<u32>>,
+    pub settlements: Vec<Vec<u32>>,
+}
+
+/// The first contracts of a product from a month on.
+pub fn contracts(product: usize, from: u32, count: usize) -> Vec<u32> {
+    let traded = (from..).filter(|&month| PRODUCTS[product].trades(month));
+    traded.take(count).collect()
+}
+
+impl Trial {
+    /// The book after one ended day on which ten contracts of each product settled.
+    pub fn new(limits: [u32; 8]) -> Trial {
+        let months: Vec<Vec<u32>> = (0..8).map(|product| contracts(product, JULY, 10)).collect();
+        let mut trial = Trial {
+            book: Book::found(limits).expect("fit limits"),
+            next_day: 3,
+            settlements: vec![vec![FIRST_SETTLEMENT; 10]; 8],
+            months,
+        };
+        trial.day(&[]);
+        trial
+    }
+
+    /// Opens the next day with ten business days left.
+    pub fn open(&mut self) {
+        self.open_with(10);
+    }
+
+    pub fn open_with(&mut self, left: u32) {
+        let opened = self.book.open(2024, 6, self.next_day, left);
+        assert_eq!(opened, Ok([false; 8]));
+        self.next_day += 1;
+    }
+
+    pub fn file(&mut self, product: usize) {
+        let filed = self.book.file(
+            product as u32,
+            &self.months[product],
+            &self.settlements[product],
+        );
+        assert_eq!(filed, Ok(()), "product {product}");
+    }
+
+    /// A whole day with these changes, all else unchanged.
+    pub fn day(&mut self, changes: &[Change]) -> [Event; GROUP_COUNT] {
+        self.open();
+        self.rest_of_day(changes)
+    }
+
+    /// The sheets and the end of a day that is open.
+    pub fn rest_of_day(&mut self, changes: &[Change]) -> [Event; GROUP_COUNT] {
+        for &(product, place, change) in changes {
+            let settlement = &mut self.settlements[product][place];
+            *settlement = (i64::from(*settlement) + change) as u32;
+        }
+        (0..8).for_each(|product| self.file(product));
+        self.book.end().expect("an end")
+    }
+}

@@ -1,0 +1,177 @@
+//! Opening a day: season limits, the emptying of windows, the date.
+
+use super::{Book, Limits, PRODUCT_COUNT};
+use crate::amounts::{self, SEASON_DAYS};
+use crate::dates::Date;
+use crate::products::PRODUCTS;
+use crate::refusal::Refusal;
+
+/// For each product, whether it got new limits.
+pub type NewLimits = [bool; PRODUCT_COUNT];
+
+impl Book {
+    /// Opens a day, or gives the first refusal in the order 1, 2, 3, 4.
+    pub fn open(
+        &mut self,
+        year: u32,
+        month: u32,
+        day: u32,
+        left: u32,
+    ) -> Result<NewLimits, Refusal> {
+        if !self.is_sound() {
+            return Err(Refusal::Unsound);
+        }
+        if self.is_open {
+            return Err(Refusal::Day);
+        }
+        let date = Date::new(year, month, day).ok_or(Refusal::Date)?;
+        if left > date.days_remaining() {
+            return Err(Refusal::Date);
+        }
+        let last = self.last_opened().map(|(last, _)| last);
+        if last.is_some_and(|last| date <= last) {
+            return Err(Refusal::NotLater);
+        }
+        let renewed = match last {
+            Some(last) => self.turn_season(last.season(), date.season()),
+            None => [false; PRODUCT_COUNT],
+        };
+        self.is_open = true;
+        self.date = Some([year, month, day]);
+        self.left = left;
+        Ok(renewed)
+    }
+
+    /// New limits where a season follows the last, then empty windows where it changed at all.
+    fn turn_season(&mut self, before: u32, now: u32) -> NewLimits {
+        let mut renewed = [false; PRODUCT_COUNT];
+        if now == before {
+            return renewed;
+        }
+        if now == before + 1 {
+            renewed = std::array::from_fn(|product| self.renew_limits(product));
+        }
+        self.windows.iter_mut().for_each(Vec::clear);
+        renewed
+    }
+
+    /// Sets the season limits of a product whose window is full.
+    fn renew_limits(&mut self, product: usize) -> bool {
+        let window = &self.windows[product];
+        if window.len() != SEASON_DAYS as usize {
+            return false;
+        }
+        let sum = window.iter().map(|&settlement| u64::from(settlement)).sum();
+        let initial = amounts::season_limit(&PRODUCTS[product], sum);
+        self.limits[product] = Limits::from_initial(product, initial);
+        true
+    }
+}
+
+#[cfg(test)]
+mod tests {
+    use super::super::{Level, Standing};
+    use super::*;
+
+    fn fresh() -> Book {
+        Book::found([200, 400, 200, 200, 240, 240, 160, 100]).expect("fit limits")
+    }
+
+    /// A book whose last day was this one, with `days` settlements of 6,000 in Corn's window.
+    fn closed_on(date: [u32; 3], days: usize) -> Book {
+        let mut book = fresh();
+        book.date = Some(date);
+        book.windows[0] = vec![6_000; days];
+        book.windows[7] = vec![3_000; 44];
+        book
+    }
+
+    const CORN_ALONE: NewLimits = [true, false, false, false, false, false, false, false];
+
+    #[test]
+    fn the_first_opening_resets_nothing_and_keeps_windows() {
+        let mut book = fresh();
+        book.windows[0] = vec![6_000; 45];
+        assert_eq!(book.open(2024, 6, 27, 1), Ok([false; 8]));
+        assert_eq!(book.windows[0].len(), 45);
+        assert_eq!(
+            (book.is_open, book.date, book.left),
+            (true, Some([2024, 6, 27]), 1)
+        );
+    }
+
+    #[test]
+    fn refusals_come_in_the_order_2_3_4() {
+        let mut book = fresh();
+        assert_eq!(book.open(2023, 2, 29, 0), Err(Refusal::Date));
+        assert_eq!(book.open(2024, 2, 29, 1), Err(Refusal::Date));
+        assert_eq!(book.open(2024, 2, 27, 2), Ok([false; 8]));
+        assert_eq!(book.open(2023, 2, 29, 0), Err(Refusal::Day));
+        assert_eq!(book.open(2024, 2, 28, 0), Err(Refusal::Day));
+        book.is_open = false;
+        assert_eq!(book.open(2024, 2, 27, 3), Err(Refusal::Date));
+        assert_eq!(book.open(2024, 2, 27, 2), Err(Refusal::NotLater));
+        assert_eq!(book.open(2023, 12, 31, 0), Err(Refusal::NotLater));
+        assert_eq!(book.open(2024, 2, 29, 0), Ok([false; 8]));
+    }
+
+    #[test]
+    fn a_full_window_gives_season_limits_in_the_next_season() {
+        let mut book = closed_on([2024, 4, 30], 45);
+        book.standings[0] = Standing {
+            level: Level::Expanded,
+            marked: true,
+        };
+        assert_eq!(book.open(2024, 10, 31, 0), Ok(CORN_ALONE));
+        let season = Limits {
+            initial: 440,
+            expanded: 680,
+        };
+        assert_eq!(book.limits[0], season);
+        assert_eq!(
+            book.limits[7],
+            Limits {
+                initial: 100,
+                expanded: 150
+            }
+        );
+        assert!(book.windows.iter().all(Vec::is_empty));
+        assert_eq!(
+            book.standings[0],
+            Standing {
+                level: Level::Expanded,
+                marked: true
+            }
+        );
+    }
+
+    #[test]
+    fn a_short_window_keeps_the_limits_and_is_emptied() {
+        let mut book = closed_on([2024, 4, 30], 44);
+        assert_eq!(book.open(2024, 5, 1, 22), Ok([false; 8]));
+        assert_eq!(book.limits[0].initial, 200);
+        assert!(book.windows.iter().all(Vec::is_empty));
+    }
+
+    #[test]
+    fn a_skipped_season_resets_nothing_and_empties_windows() {
+        let mut book = closed_on([2024, 4, 30], 45);
+        assert_eq!(book.open(2024, 11, 1, 20), Ok([false; 8]));
+        assert_eq!(book.limits[0].initial, 200);
+        assert!(book.windows.iter().all(Vec::is_empty));
+    }
+
+    #[test]
+    fn within_a_season_windows_stay() {
+        let mut book = closed_on([2024, 5, 1], 45);
+        assert_eq!(book.open(2024, 10, 31, 0), Ok([false; 8]));
+        assert_eq!(book.windows[0].len(), 45);
+    }
+
+    #[test]
+    fn equal_limits_count_as_new() {
+        let mut book = closed_on([2024, 4, 30], 45);
+        book.limits[0] = Limits::from_initial(0, 440);
+        assert_eq!(book.open(2024, 5, 1, 0), Ok(CORN_ALONE));
+    }
+}

@@ -1,0 +1,87 @@
+//! The answer to a call, as a line.
+
+use super::call::{self, Call};
+use super::show;
+use crate::bare::{self, Order, Verdict};
+use crate::book::end::Event;
+use crate::book::Book;
+use crate::refusal::Refusal;
+
+pub const NOT_A_CALL: &str = "not a call";
+pub const NO_BOOK: &str = "no book";
+
+/// Answers a line on a book, if one was founded; None where the line is passed over.
+pub fn answer_line(book: &mut Option<Book>, line: &[u8]) -> Option<String> {
+    if call::is_passed_over(line) {
+        return None;
+    }
+    Some(match call::parse(line) {
+        Some(call) => answer(book, &call),
+        None => NOT_A_CALL.to_string(),
+    })
+}
+
+/// Answers a call on a book, if one was founded.
+pub fn answer(book: &mut Option<Book>, call: &Call) -> String {
+    let outcome = match (call, book.as_mut()) {
+        (Call::Found(limits), _) => Book::found(*limits).map(|founded| {
+            *book = Some(founded);
+            "founded".to_string()
+        }),
+        (Call::Bare(numbers), _) => bare::check(&Order::from(*numbers)).map(verdict),
+        (_, None) => Ok(NO_BOOK.to_string()),
+        (call, Some(book)) => answer_of(book, call),
+    };
+    outcome.unwrap_or_else(|refusal| format!("refused {}", refusal.number()))
+}
+
+/// Answers a call that needs a book.
+fn answer_of(book: &mut Book, call: &Call) -> Result<String, Refusal> {
+    match call {
+        Call::Open([year, month, day, left]) => {
+            let renewed = book.open(*year, *month, *day, *left)?;
+            Ok(words(
+                "opened",
+                renewed.map(|one| u32::from(one).to_string()),
+            ))
+        }
+        Call::Sheet(sheet) => {
+            book.file(sheet.product, &sheet.months, &sheet.settlements)?;
+            Ok("filed".to_string())
+        }
+        Call::End => Ok(words("ended", book.end()?.map(event))),
+        Call::Check([product, size, month, price]) => {
+            Ok(verdict(book.check(*product, *size, *month, *price)?))
+        }
+        _ => Ok(show::book(book)),
+    }
+}
+
+fn words(first: &str, others: impl IntoIterator<Item = String>) -> String {
+    let mut line = first.to_string();
+    for other in others {
+        line.push(' ');
+        line.push_str(&other);
+    }
+    line
+}
+
+fn event(event: Event) -> String {
+    match event {
+        Event::Quiet => "quiet".to_string(),
+        Event::Reverted => "reverted".to_string(),
+        Event::Triggered(lead) => format!("triggered:{}:{}", lead.month, lead.product),
+        Event::Held(lead) => format!("held:{}:{}", lead.month, lead.product),
+        Event::Raised(lead) => format!("raised:{}:{}", lead.month, lead.product),
+    }
+}
+
+fn verdict(verdict: Verdict) -> String {
+    let word = match verdict {
+        Verdict::Free => "free",
+        Verdict::Within => "within",
+        Verdict::Below => "below",
+        Verdict::Above => "above",
+    };
+    word.to_string()
+}

@@ -1,0 +1,289 @@
+//! What ends reached: events with their leads and edges, and windows.
+
+use super::{Coverage, Seen};
+use crate::amounts::LARGEST_LIMIT;
+use crate::book::end::Move;
+use crate::book::window::{collected_contract, LARGEST_WINDOW};
+use crate::book::{Book, Level, GROUPS, GROUP_COUNT, PRODUCT_COUNT};
+use crate::dates::{is_spot, Date};
+use crate::products::PRODUCTS;
+
+const EVENTS: [&str; 6] = [
+    "quiet",
+    "triggered",
+    "held",
+    "held and marked",
+    "reverted",
+    "raised",
+];
+
+const EDGES: [&str; 8] = [
+    "quiet with a move one tick below I",
+    "quiet with a move of I past the first N",
+    "quiet with a move of I that a new contract pushed past the first N",
+    "triggered by the last of the first N",
+    "held by exactly I",
+    "held by one tick below E",
+    "held past the first N alone",
+    "reverted with a move one tick below I",
+];
+
+const WANTED: [&str; 15] = [
+    "end: refused 2",
+    "end: 2 over 12",
+    "end: refused 12, none in",
+    "end: refused 12, one outstanding",
+    "end: first day",
+    "end: a spot contract moved by I or more on a quiet day",
+    "end: the lowest product leads among contracts of a month",
+    "end: a month of 2^31 or more leads",
+    "end: raised by a mark carried over a season",
+    "end: raised to I = E = 2000000",
+    "end: raised to I below E = 2000000",
+    "window: collects on 15 April",
+    "window: collects on 15 October",
+    "window: rests",
+    "window: begins after its contract was missing",
+];
+
+/// Soybeans and Rough Rice, whose collected contract can leave the sheet within the season.
+const CAN_LEAVE: [usize; 2] = [1, 7];
+
+pub fn wanted() -> Vec<String> {
+    let groups = || 0..GROUP_COUNT;
+    let events = groups().flat_map(|group| EVENTS.map(|event| event_key(group, event)));
+    let edges = groups().flat_map(|group| EDGES.map(|edge| event_key(group, edge)));
+    let leads = ["triggered", "held", "raised"]
+        .into_iter()
+        .flat_map(|event| {
+            GROUPS[1]
+                .iter()
+                .map(move |product| lead_key(event, *product))
+        });
+    let windows = (0..PRODUCT_COUNT).flat_map(|product| {
+        ["collects", "pushes out the oldest", "misses its contract"]
+            .map(|what| window_key(product, what))
+    });
+    let emptied = CAN_LEAVE.map(|product| window_key(product, "emptied by a missing contract"));
+    let windows = windows.chain(emptied);
+    let fixed = WANTED.iter().map(|what| what.to_string());
+    fixed
+        .chain(events)
+        .chain(edges)
+        .chain(leads)
+        .chain(windows)
+        .collect()
+}
+
+fn event_key(group: usize, what: &str) -> String {
+    format!("end: group {group} {what}")
+}
+
+fn lead_key(event: &str, product: usize) -> String {
+    format!("end: Complex {event}, led by product {product}")
+}
+
+fn window_key(product: usize, what: &str) -> String {
+    format!("window: product {product} {what}")
+}
+
+pub fn observe(coverage: &mut Coverage, seen: &Seen) {
+    if let Some(refusal) = seen.refusal() {
+        return observe_refused(coverage, seen.before, refusal);
+    }
+    let (date, left) = seen.after.last_opened().expect("the day ended");
+    let is_first = seen.before.last_ended[0].is_none();
+    coverage.count_if(is_first, "end: first day");
+    for (group, word) in seen.answer.split(' ').skip(1).enumerate() {
+        let moves = seen.before.moves(group, date, left);
+        observe_event(coverage, seen, group, word);
+        observe_lead(coverage, word, &moves);
+        observe_edges(coverage, seen.before, group, word, &moves);
+        observe_spot(coverage, seen.before, group, word, (date, left));
+    }
+    coverage.carried_marks = [false; GROUP_COUNT];
+    for product in 0..PRODUCT_COUNT {
+        observe_window(coverage, seen.before, product, date);
+    }
+}
+
+fn observe_refused(coverage: &mut Coverage, book: &Book, refusal: u32) {
+    let outstanding = book
+        .sheets_in
+        .iter()
+        .filter(|sheet| sheet.is_none())
+        .count();
+    if refusal == 2 {
+        coverage.count("end: refused 2");
+        coverage.count_if(outstanding > 0, "end: 2 over 12");
+        return;
+    }
+    coverage.count_if(outstanding == PRODUCT_COUNT, "end: refused 12, none in");
+    coverage.count_if(outstanding == 1, "end: refused 12, one outstanding");
+}
+
+/// The event's word without its leading contract.
+fn name(word: &str) -> &str {
+    word.split(':').next().unwrap_or_default()
+}
+
+fn observe_event(coverage: &mut Coverage, seen: &Seen, group: usize, word: &str) {
+    let event = match (name(word), seen.after.standings[group].marked) {
+        ("held", true) => "held and marked",
+        (event, _) => event,
+    };
+    coverage.count(event_key(group, event));
+    if event != "raised" {
+        return;
+    }
+    let is_carried = coverage.carried_marks[group];
+    coverage.count_if(is_carried, "end: raised by a mark carried over a season");
+    for &product in GROUPS[group] {
+        let limits = seen.after.limits[product];
+        let is_largest = limits.expanded == LARGEST_LIMIT;
+        let is_equal = limits.initial == LARGEST_LIMIT;
+        coverage.count_if(is_equal, "end: raised to I = E = 2000000");
+        coverage.count_if(
+            is_largest && !is_equal,
+            "end: raised to I below E = 2000000",
+        );
+    }
+}
+
+fn observe_lead(coverage: &mut Coverage, word: &str, moves: &[Move]) {
+    let mut parts = word.split(':');
+    let (Some(event), Some(month), Some(product)) = (parts.next(), parts.next(), parts.next())
+    else {
+        return;
+    };
+    let month: u32 = month.parse().expect("a month");
+    let product: usize = product.parse().expect("a product");
+    coverage.count_if(month >= 1 << 31, "end: a month of 2^31 or more leads");
+    if !GROUPS[1].contains(&product) {
+        return;
+    }
+    coverage.count(lead_key(event, product));
+    let lead = moves
+        .iter()
+        .find(|one| one.contract.month == month && one.contract.product == product);
+    let size = lead.map_or(0, |one| one.size);
+    // The same size in a product of the same amounts meets the same condition.
+    let is_tie = moves.iter().any(|one| {
+        let contract = one.contract;
+        contract.month == month && contract.product > product && one.size >= size
+    });
+    coverage.count_if(
+        is_tie,
+        "end: the lowest product leads among contracts of a month",
+    );
+}
+
+fn observe_edges(coverage: &mut Coverage, book: &Book, group: usize, word: &str, moves: &[Move]) {
+    let limits = |one: &Move| book.limits[one.contract.product];
+    let tick = |one: &Move| PRODUCTS[one.contract.product].standard_tick;
+    let is_first = |one: &Move| one.place < PRODUCTS[one.contract.product].first;
+    let below = moves
+        .iter()
+        .any(|one| one.size + tick(one) == limits(one).initial);
+    let mut edge = |happened: bool, place: usize| {
+        coverage.count_if(happened, &event_key(group, EDGES[place]));
+    };
+    let by =
+        |one: &&Move| word.ends_with(&format!(":{}:{}", one.contract.month, one.contract.product));
+    let lead = moves.iter().find(by);
+    match (name(word), lead) {
+        ("quiet", _) => {
+            let mut past = moves
+                .iter()
+                .filter(|one| !is_first(one) && one.size == limits(one).initial);
+            edge(below, 0);
+            edge(past.clone().next().is_some(), 1);
+            edge(
+                past.any(|one| changed_before(moves, one) < PRODUCTS[one.contract.product].first),
+                2,
+            );
+        }
+        ("triggered", Some(lead)) => {
+            edge(lead.place + 1 == PRODUCTS[lead.contract.product].first, 3);
+        }
+        ("held", Some(lead)) => {
+            let holds = |one: &&Move| one.size >= limits(one).initial;
+            edge(lead.size == limits(lead).initial, 4);
+            edge(lead.size + tick(lead) == limits(lead).expanded, 5);
+            edge(!moves.iter().filter(holds).any(is_first), 6);
+        }
+        ("reverted", _) => edge(below, 7),
+        _ => {}
+    }
+}
+
+/// How many contracts of the product with a change are nearer.
+fn changed_before(moves: &[Move], one: &Move) -> usize {
+    let nearer = |other: &&Move| {
+        other.contract.product == one.contract.product && other.contract.month < one.contract.month
+    };
+    moves.iter().filter(nearer).count()
+}
+
+fn observe_spot(
+    coverage: &mut Coverage,
+    book: &Book,
+    group: usize,
+    word: &str,
+    (date, left): (Date, u32),
+) {
+    if word != "quiet" || book.standings[group].level != Level::Initial {
+        return;
+    }
+    for &product in GROUPS[group] {
+        let sheet = book.sheets_in[product].iter().flatten();
+        let mut spot = sheet.filter(|entry| is_spot(entry.month, date, left));
+        let has_moved = spot.any(|entry| {
+            let last = book.last_settlement(product, entry.month);
+            last.is_some_and(|last| entry.settlement.abs_diff(last) >= book.limits[product].initial)
+        });
+        coverage.count_if(
+            has_moved,
+            "end: a spot contract moved by I or more on a quiet day",
+        );
+    }
+}
+
+fn observe_missing(coverage: &mut Coverage, product: usize, length: usize) {
+    coverage.count(window_key(product, "misses its contract"));
+    if length == 0 {
+        return;
+    }
+    // Row 9 keeps the others listed; November can be spot in October, and leave.
+    assert!(CAN_LEAVE.contains(&product), "a collected contract left");
+    coverage.count(window_key(product, "emptied by a missing contract"));
+}
+
+fn observe_window(coverage: &mut Coverage, before: &Book, product: usize, date: Date) {
+    let Some(month) = collected_contract(product, date) else {
+        return coverage.count("window: rests");
+    };
+    let length = before.windows[product].len();
+    let sheet = before.sheets_in[product].as_ref().expect("the day ended");
+    if !sheet.iter().any(|entry| entry.month == month) {
+        return observe_missing(coverage, product, length);
+    }
+    coverage.count(window_key(
+        product,
+        match length {
+            LARGEST_WINDOW => "pushes out the oldest",
+            _ => "collects",
+        },
+    ));
+    coverage.count_if(date.word() % 10_000 == 415, "window: collects on 15 April");
+    coverage.count_if(
+        date.word() % 10_000 == 1015,
+        "window: collects on 15 October",
+    );
+    let was_missing =
+        before.last_ended[product].is_some() && before.last_settlement(product, month).is_none();
+    coverage.count_if(
+        length == 0 && was_missing,
+        "window: begins after its contract was missing",
+    );
+}

@@ -1,0 +1,178 @@
+//! What openings reached: refusals in order, season changes, dates.
+
+use super::{Coverage, Seen};
+use crate::book::window::LARGEST_WINDOW;
+use crate::book::{Book, Level, PRODUCT_COUNT};
+use crate::dates::Date;
+
+const WANTED: [&str; 31] = [
+    "open: refused 2",
+    "open: refused 3, false date",
+    "open: refused 3, 29 February",
+    "open: refused 3, left above the days remaining",
+    "open: refused 4, same day",
+    "open: refused 4, earlier day",
+    "open: 2 over 3",
+    "open: 2 over 4",
+    "open: 3 over 4",
+    "open: first opening",
+    "open: left is all days remaining",
+    "open: left 0",
+    "open: left 1",
+    "open: left 2",
+    "open: leap day",
+    "open: year 2000",
+    "open: year 2098",
+    "open: first day of the calendar",
+    "open: last day of the calendar",
+    "season: next, in May",
+    "season: next, in November",
+    "season: next, with 1 to 44 in a window",
+    "season: next, with an empty window",
+    "season: next, some products renewed and some not",
+    "season: next, limits changed",
+    "season: next, limits equal",
+    "season: next, limit at the floor",
+    "season: skipped, with a full window",
+    "season: change empties a window",
+    "season: expanded level carried over",
+    "season: mark carried over",
+];
+
+pub fn wanted() -> Vec<String> {
+    let renewed = (0..PRODUCT_COUNT).map(|product| format!("season: product {product} renewed"));
+    let fixed = WANTED.iter().map(|what| what.to_string());
+    fixed.chain(renewed).collect()
+}
+
+pub fn observe(coverage: &mut Coverage, numbers: &[u32; 4], seen: &Seen) {
+    match seen.refusal() {
+        Some(refusal) => observe_refused(coverage, numbers, seen.before, refusal),
+        None => observe_opened(coverage, seen),
+    }
+}
+
+/// The refusals 2, 3 and 4 that apply, whatever the order.
+fn faults(numbers: &[u32; 4], book: &Book) -> Vec<u32> {
+    let [year, month, day, left] = *numbers;
+    let date = Date::new(year, month, day);
+    let last = book.last_opened().map(|(date, _)| date);
+    // A false date is compared as its three numbers.
+    let is_not_later = book.date.is_some_and(|last| [year, month, day] <= last);
+    let is_false = date.is_none_or(|date| left > date.days_remaining());
+    let all = [
+        (2, book.is_open),
+        (3, is_false),
+        (4, last.is_some() && is_not_later),
+    ];
+    let apply = all.into_iter().filter(|(_, applies)| *applies);
+    apply.map(|(number, _)| number).collect()
+}
+
+fn observe_refused(coverage: &mut Coverage, numbers: &[u32; 4], book: &Book, refusal: u32) {
+    let faults = faults(numbers, book);
+    assert_eq!(faults.first(), Some(&refusal), "the first that applies");
+    for later in &faults[1..] {
+        coverage.count(format!("open: {refusal} over {later}"));
+    }
+    let [year, month, day, _] = *numbers;
+    let is_false = Date::new(year, month, day).is_none();
+    let is_same = book.date == Some([year, month, day]);
+    let is_29_february = is_false && [month, day] == [2, 29];
+    coverage.count_if(
+        refusal == 3 && is_29_february,
+        "open: refused 3, 29 February",
+    );
+    coverage.count(match (refusal, is_false, is_same) {
+        (2, _, _) => "open: refused 2",
+        (3, true, _) => "open: refused 3, false date",
+        (3, false, _) => "open: refused 3, left above the days remaining",
+        (_, _, true) => "open: refused 4, same day",
+        (_, _, false) => "open: refused 4, earlier day",
+    });
+}
+
+fn observe_opened(coverage: &mut Coverage, seen: &Seen) {
+    let (date, left) = seen.after.last_opened().expect("a day is open");
+    observe_date(coverage, date, left);
+    let Some((last, _)) = seen.before.last_opened() else {
+        return coverage.count("open: first opening");
+    };
+    let seasons = date.season() - last.season();
+    coverage.carried_marks = seen.before.standings.map(|one| one.marked && seasons > 0);
+    if seasons == 0 {
+        return;
+    }
+    observe_carried(coverage, seen);
+    match seasons {
+        1 => observe_next_season(coverage, seen, date),
+        _ => {
+            let full = seen
+                .before
+                .windows
+                .iter()
+                .any(|one| one.len() == LARGEST_WINDOW);
+            coverage.count_if(full, "season: skipped, with a full window");
+        }
+    }
+}
+
+fn observe_date(coverage: &mut Coverage, date: Date, left: u32) {
+    for small in 0..=2 {
+        coverage.count_if(left == small, &format!("open: left {small}"));
+    }
+    coverage.count_if(
+        left == date.days_remaining(),
+        "open: left is all days remaining",
+    );
+    coverage.count_if(date.word() % 10_000 == 229, "open: leap day");
+    coverage.count_if(date.year() == 2000, "open: year 2000");
+    coverage.count_if(date.year() == 2098, "open: year 2098");
+    coverage.count_if(date.word() == 20000101, "open: first day of the calendar");
+    coverage.count_if(date.word() == 20981231, "open: last day of the calendar");
+}
+
+fn observe_carried(coverage: &mut Coverage, seen: &Seen) {
+    let emptied = seen.before.windows.iter().any(|window| !window.is_empty());
+    coverage.count_if(emptied, "season: change empties a window");
+    let standings = seen.after.standings;
+    let expanded = standings.iter().any(|one| one.level == Level::Expanded);
+    coverage.count_if(expanded, "season: expanded level carried over");
+    let marked = standings.iter().any(|one| one.marked);
+    coverage.count_if(marked, "season: mark carried over");
+}
+
+fn observe_next_season(coverage: &mut Coverage, seen: &Seen, date: Date) {
+    let is_summer = (5..=10).contains(&date.month());
+    let lengths = seen.before.windows.each_ref().map(Vec::len);
+    let renewed = lengths
+        .iter()
+        .filter(|&&length| length == LARGEST_WINDOW)
+        .count();
+    if renewed > 0 {
+        coverage.count(match is_summer {
+            true => "season: next, in May",
+            false => "season: next, in November",
+        });
+    }
+    let is_mixed = renewed > 0 && renewed < PRODUCT_COUNT;
+    coverage.count_if(is_mixed, "season: next, some products renewed and some not");
+    for (product, length) in lengths.into_iter().enumerate() {
+        match length {
+            0 => coverage.count("season: next, with an empty window"),
+            LARGEST_WINDOW => observe_renewed(coverage, seen, product),
+            _ => coverage.count("season: next, with 1 to 44 in a window"),
+        }
+    }
+}
+
+fn observe_renewed(coverage: &mut Coverage, seen: &Seen, product: usize) {
+    coverage.count(format!("season: product {product} renewed"));
+    let limits = seen.after.limits[product];
+    let floor = crate::products::PRODUCTS[product].floor;
+    coverage.count_if(limits.initial == floor, "season: next, limit at the floor");
+    coverage.count(match limits == seen.before.limits[product] {
+        true => "season: next, limits equal",
+        false => "season: next, limits changed",
+    });
+}

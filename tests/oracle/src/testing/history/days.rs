@@ -1,0 +1,138 @@
+//! One book through every day from 2000 to 2098, with no call refused.
+
+use super::calendar::calendar;
+use super::listing::Custom;
+use super::market::Market;
+use super::text;
+use crate::book::{Book, GROUP_COUNT};
+use crate::dates::Date;
+use crate::history::answer;
+use crate::history::call::{Call, SheetCall};
+use crate::prices::LARGEST_PRICE;
+use crate::products::PRODUCTS;
+use crate::testing::random::Random;
+
+const SEED: u64 = 20_000_101;
+
+const LIMITS: [u32; 8] = [200, 400, 200, 200, 240, 240, 160, 100];
+
+/// About where the products settle, in their own units.
+const PRICES: [u32; 8] = [3_600, 8_000, 3_000, 3_500, 4_400, 4_400, 2_400, 2_800];
+
+struct Course {
+    random: Random,
+    market: Market,
+    text: Vec<u8>,
+    book: Option<Book>,
+}
+
+/// The history of all 36,160 days, with so many checks a day from the second on.
+pub fn all_days(checks: usize) -> Vec<u8> {
+    days(checks, calendar().days.len())
+}
+
+/// The history of the first days.
+pub fn days(checks: usize, count: usize) -> Vec<u8> {
+    let mut course = Course {
+        random: Random::new(SEED),
+        market: market(),
+        text: Vec::new(),
+        book: None,
+    };
+    course.call(Call::Found(LIMITS));
+    let calendar = calendar();
+    for (&date, &left) in calendar.days.iter().zip(&calendar.left).take(count) {
+        course.day(date, left, checks);
+    }
+    course.text
+}
+
+fn market() -> Market {
+    let custom = |product: usize| Custom {
+        contracts: PRODUCTS[product].first + 4,
+        leaves_out: 1_000,
+        drops_spot: 3,
+        is_far: false,
+        price: PRICES[product],
+    };
+    Market {
+        customs: std::array::from_fn(custom),
+        driver: None,
+        calm: 3,
+    }
+}
+
+impl Course {
+    fn call(&mut self, call: Call) {
+        let answer = answer::answer(&mut self.book, &call);
+        assert!(!answer.starts_with("refused"), "{call:?}: {answer}");
+        self.text.extend_from_slice(text::line(&call).as_bytes());
+        self.text.push(b'\n');
+    }
+
+    fn book(&self) -> &Book {
+        self.book.as_ref().expect("a book was founded")
+    }
+
+    fn day(&mut self, date: Date, left: u32, checks: usize) {
+        self.call(Call::Open([date.year(), date.month(), date.day(), left]));
+        let sheets: Vec<SheetCall> = (0..GROUP_COUNT)
+            .flat_map(|group| {
+                let book = self.book.as_ref().expect("a book was founded");
+                self.market.draft(&mut self.random, book, group)
+            })
+            .collect();
+        let first_check = self.random.below(8);
+        for (place, sheet) in sheets.into_iter().enumerate() {
+            self.call(Call::Sheet(sheet));
+            // Checks are spread over the day and over the products.
+            for check in (place * checks / 8)..((place + 1) * checks / 8) {
+                self.check((first_check + check) % 8, date);
+            }
+        }
+        self.call(Call::End);
+    }
+
+    /// A check on a listed contract that has not passed, at a price near its limit.
+    fn check(&mut self, product: usize, date: Date) {
+        let Some(sheet) = self.book().last_ended[product].clone() else {
+            return;
+        };
+        let from = date.contract_month();
+        let open: Vec<_> = sheet.iter().filter(|entry| entry.month >= from).collect();
+        if open.is_empty() {
+            return;
+        }
+        let entry = open[self.random.below(open.len())];
+        let tick = PRODUCTS[product].standard_tick;
+        let limit = self.book().limit_today(product);
+        let far = self.random.pick(&[0, limit, limit + tick]);
+        let down = entry.settlement.saturating_sub(far).max(tick);
+        let up = (entry.settlement + far).min(LARGEST_PRICE);
+        let price = self.random.pick(&[down, up]);
+        self.call(Call::Check([product as u32, 0, entry.month, price]));
+    }
+}
+
+#[cfg(test)]
+mod tests {
+    use super::*;
+    use crate::history::replay::answers;
+
+    #[test]
+    fn two_years_are_accepted_and_reach_events() {
+        let answers = String::from_utf8(answers(&days(10, 800))).expect("answers are text");
+        assert!(!answers.contains("refused"));
+        for word in [
+            "opened 1",
+            "triggered",
+            "held",
+            "reverted",
+            "raised",
+            "within",
+            "above",
+        ] {
+            assert!(answers.contains(word), "{word}");
+        }
+    }
+}

@@ -1,0 +1,153 @@
+//! The tests of a replay program, in jobs that threads share.
+
+use std::fs;
+use std::path::{Path, PathBuf};
+
+use super::compare::{answered_lines, difference, lines};
+use super::coverage::Coverage;
+use super::{days, garbage, scenario, side_by_side};
+use crate::history::replay::answers;
+use crate::testing::program::{Delivery, Program};
+
+#[derive(Clone, Debug)]
+pub enum Job {
+    /// Every day from 2000 to 2098.
+    AllDays,
+    /// A generated history, by its seed.
+    Generated(u64),
+    Example(PathBuf),
+    /// So many pieces of garbage from a seed on.
+    Garbage {
+        first: u64,
+        count: u64,
+    },
+    /// Two histories that agree on a group.
+    SideBySide {
+        group: usize,
+        seed: u64,
+    },
+}
+
+/// A test, and why it failed if it did.
+pub struct Test {
+    /// The kind of job that made it.
+    pub part: &'static str,
+    pub name: String,
+    pub failure: Option<String>,
+}
+
+#[derive(Default)]
+pub struct Outcome {
+    pub tests: Vec<Test>,
+    pub coverage: Coverage,
+}
+
+const CHECKS_A_DAY: usize = 2;
+
+const ALL_DAYS: &str = "all days";
+const EXAMPLE: &str = "example";
+const GENERATED: &str = "generated";
+const SIDE_BY_SIDE: &str = "side by side";
+const GARBAGE: &str = "garbage";
+
+/// The parts in which tests are counted.
+pub const PARTS: [&str; 5] = [ALL_DAYS, EXAMPLE, GENERATED, SIDE_BY_SIDE, GARBAGE];
+
+/// Runs a job with a program under test.
+pub fn run(program: &mut Program, job: &Job) -> Outcome {
+    match job {
+        Job::AllDays => all_days(program),
+        Job::Generated(seed) => generated(program, *seed),
+        Job::Example(path) => example(program, path),
+        Job::Garbage { first, count } => garbage_from(program, *first, *count),
+        Job::SideBySide { group, seed } => side_by_side(program, *group, *seed),
+    }
+}
+
+fn one(part: &'static str, name: String, failure: Option<String>) -> Outcome {
+    Outcome {
+        tests: vec![Test {
+            part,
+            name,
+            failure,
+        }],
+        coverage: Coverage::default(),
+    }
+}
+
+/// Compares the program's answers with this implementation's.
+fn compare(program: &mut Program, history: &[u8], expected: &[u8]) -> Option<String> {
+    match program.output_of(history, Delivery::Whole) {
+        Ok(output) => difference(history, expected, &output),
+        Err(error) => Some(error),
+    }
+}
+
+fn generated(program: &mut Program, seed: u64) -> Outcome {
+    let history = scenario::history(seed);
+    let failure = compare(program, &history.text, &answers(&history.text));
+    Outcome {
+        coverage: history.coverage,
+        ..one(GENERATED, format!("{GENERATED} {seed}"), failure)
+    }
+}
+
+fn example(program: &mut Program, path: &Path) -> Outcome {
+    let failure = match fs::read(path) {
+        Ok(history) => compare(program, &history, &answers(&history)),
+        Err(error) => Some(error.to_string()),
+    };
+    one(EXAMPLE, format!("{EXAMPLE} {}", path.display()), failure)
+}
+
+/// No call of all days is refused, by this implementation or by the program.
+fn all_days(program: &mut Program) -> Outcome {
+    let history = days::all_days(CHECKS_A_DAY);
+    let expected = answers(&history);
+    let is_refused = |line: &&[u8]| line.starts_with(b"refused") || line.starts_with(b"no");
+    let failure = match lines(&expected).iter().find(|line| is_refused(line)) {
+        Some(_) => Some("a call of the history itself is refused".to_string()),
+        None => compare(program, &history, &expected),
+    };
+    one(ALL_DAYS, ALL_DAYS.to_string(), failure)
+}
+
+fn garbage_from(program: &mut Program, first: u64, count: u64) -> Outcome {
+    let tests = (first..first + count).map(|seed| {
+        let piece = garbage::piece(seed);
+        Test {
+            part: GARBAGE,
+            name: format!("{GARBAGE} {seed}"),
+            failure: survive(program, &piece),
+        }
+    });
+    Outcome {
+        tests: tests.collect(),
+        coverage: Coverage::default(),
+    }
+}
+
+/// One answer for each line that is neither blank nor a comment, and the right one.
+fn survive(program: &mut Program, piece: &[u8]) -> Option<String> {
+    let output = match program.output_of(piece, Delivery::Whole) {
+        Ok(output) => output,
+        Err(error) => return Some(error),
+    };
+    let (due, written) = (answered_lines(piece).len(), lines(&output).len());
+    let miscounted = (due != written).then(|| format!("{due} lines are due, not {written}"));
+    difference(piece, &answers(piece), &output).or(miscounted)
+}
+
+fn side_by_side(program: &mut Program, group: usize, seed: u64) -> Outcome {
+    let pair = side_by_side::pair(group, seed);
+    let outputs = pair
+        .sides
+        .each_ref()
+        .map(|side| program.output_of(&side.text, Delivery::Whole));
+    let failure = match outputs {
+        [Ok(first), Ok(second)] => pair.difference([&first, &second]),
+        [Err(error), _] | [_, Err(error)] => Some(error),
+    };
+    let name = format!("{SIDE_BY_SIDE}, group {group}, seed {seed}");
+    one(SIDE_BY_SIDE, name, failure)
+}

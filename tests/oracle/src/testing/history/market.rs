@@ -1,0 +1,241 @@
+//! Where contracts settle on a day: moods that bring a group to each of its events.
+
+use super::listing::{self, Custom};
+use crate::book::{Book, Level, Limits, GROUPS};
+use crate::dates::is_spot;
+use crate::history::call::SheetCall;
+use crate::prices::LARGEST_PRICE;
+use crate::products::PRODUCTS;
+use crate::testing::random::Random;
+
+pub struct Market {
+    pub customs: [Custom; 8],
+    /// A product of the Complex that moves by exactly I and E whenever it can.
+    pub driver: Option<usize>,
+    /// One in so many days has a mood; on the others contracts hardly move.
+    pub calm: usize,
+}
+
+/// A contract on a sheet that is being drafted.
+#[derive(Clone, Copy, Debug)]
+struct Line {
+    product: usize,
+    month: u32,
+    settlement: u32,
+    /// None where the contract is new.
+    last: Option<u32>,
+    is_spot: bool,
+    /// Among the non-spot contracts of the sheet.
+    place: usize,
+}
+
+/// How far contracts move that the mood does not single out.
+#[derive(Clone, Copy)]
+enum Background {
+    Still,
+    Small,
+    /// Up to today's limit.
+    Full,
+}
+
+/// Which contract the mood singles out.
+#[derive(Clone, Copy, PartialEq)]
+enum Which {
+    Any,
+    InFirst,
+    PastFirst,
+}
+
+/// By how much the singled-out contract moves.
+#[derive(Clone, Copy)]
+enum Size {
+    Initial,
+    Expanded,
+    BelowInitial,
+    BelowExpanded,
+    Between,
+}
+
+type Mood = (Background, Option<(Which, Size)>);
+
+const AT_INITIAL: [Mood; 10] = [
+    (Background::Small, None),
+    (Background::Small, None),
+    (Background::Still, None),
+    (Background::Full, None),
+    (Background::Small, Some((Which::InFirst, Size::Initial))),
+    (Background::Still, Some((Which::InFirst, Size::Initial))),
+    (Background::Full, Some((Which::InFirst, Size::Initial))),
+    (Background::Small, Some((Which::PastFirst, Size::Initial))),
+    (Background::Still, Some((Which::PastFirst, Size::Initial))),
+    (Background::Small, Some((Which::Any, Size::BelowInitial))),
+];
+
+const AT_EXPANDED: [Mood; 12] = [
+    (Background::Small, Some((Which::Any, Size::Expanded))),
+    (Background::Still, Some((Which::Any, Size::Expanded))),
+    (Background::Small, Some((Which::PastFirst, Size::Expanded))),
+    (Background::Full, Some((Which::Any, Size::Expanded))),
+    (Background::Small, Some((Which::Any, Size::Expanded))),
+    (Background::Small, Some((Which::Any, Size::Initial))),
+    (Background::Small, Some((Which::Any, Size::BelowExpanded))),
+    (Background::Small, Some((Which::PastFirst, Size::Between))),
+    (Background::Small, Some((Which::Any, Size::Between))),
+    (Background::Small, Some((Which::Any, Size::BelowInitial))),
+    (Background::Still, None),
+    (Background::Full, None),
+];
+
+impl Market {
+    /// Sheets of a group for the open day, which the book accepts.
+    pub fn draft(&self, random: &mut Random, book: &Book, group: usize) -> Vec<SheetCall> {
+        let mut lines = Vec::new();
+        for &product in GROUPS[group] {
+            lines.extend(self.lines(random, book, product));
+        }
+        let (background, feature) = self.mood(random, book, group);
+        for line in &mut lines {
+            line.settlement = self.settlement(random, book, line, background);
+        }
+        if let Some((which, size)) = feature {
+            let times = random.pick(&[1, 1, 2, 4]);
+            (0..times).for_each(|_| self.single_out(random, book, &mut lines, which, size));
+        }
+        let products = GROUPS[group].iter();
+        products.map(|&product| sheet(product, &lines)).collect()
+    }
+
+    fn lines(&self, random: &mut Random, book: &Book, product: usize) -> Vec<Line> {
+        let (date, left) = book.last_opened().expect("a day is open");
+        let months = listing::months_today(random, book, product, &self.customs[product]);
+        let spot = months
+            .iter()
+            .filter(|&&month| is_spot(month, date, left))
+            .count();
+        let line = |(index, &month): (usize, &u32)| Line {
+            product,
+            month,
+            settlement: 0,
+            last: book.last_settlement(product, month),
+            is_spot: is_spot(month, date, left),
+            place: index.saturating_sub(spot),
+        };
+        months.iter().enumerate().map(line).collect()
+    }
+
+    fn mood(&self, random: &mut Random, book: &Book, group: usize) -> Mood {
+        if !random.one_in(self.calm) {
+            return (Background::Small, None);
+        }
+        let is_driven = group == 1 && self.driver.is_some() && !random.one_in(5);
+        match (book.standings[group].level, is_driven) {
+            (Level::Initial, true) => AT_INITIAL[4],
+            (Level::Expanded, true) => AT_EXPANDED[0],
+            (Level::Initial, false) => random.pick(&AT_INITIAL),
+            (Level::Expanded, false) => random.pick(&AT_EXPANDED),
+        }
+    }
+
+    fn settlement(
+        &self,
+        random: &mut Random,
+        book: &Book,
+        line: &Line,
+        background: Background,
+    ) -> u32 {
+        let tick = PRODUCTS[line.product].standard_tick;
+        let Some(last) = line.last else {
+            return new_settlement(random, self.customs[line.product].price, tick);
+        };
+        if line.is_spot && random.one_in(4) {
+            return tick * random.between(1, LARGEST_PRICE / tick);
+        }
+        let limits = book.limits[line.product];
+        let largest = match background {
+            Background::Still => 0,
+            Background::Small => 20.min(limits.initial - tick),
+            Background::Full => book.limit_today(line.product),
+        };
+        let size = tick * random.between(0, largest / tick);
+        moved(random, last, size, tick).unwrap_or(last)
+    }
+
+    /// Moves one of the lines that can be singled out by the size of the mood.
+    fn single_out(
+        &self,
+        random: &mut Random,
+        book: &Book,
+        lines: &mut [Line],
+        which: Which,
+        size: Size,
+    ) {
+        let fit =
+            |line: &&mut Line| !line.is_spot && line.last.is_some() && self.is_meant(line, which);
+        let mut choices: Vec<&mut Line> = lines.iter_mut().filter(fit).collect();
+        if choices.is_empty() {
+            return;
+        }
+        let drawn = random.below(choices.len());
+        let line = &mut *choices[drawn];
+        let tick = PRODUCTS[line.product].standard_tick;
+        let amount = amount(random, book.limits[line.product], size, tick);
+        let last = line.last.expect("the line has a change");
+        if let Some(settlement) = moved(random, last, amount, tick) {
+            line.settlement = settlement;
+        }
+    }
+
+    fn is_meant(&self, line: &Line, which: Which) -> bool {
+        let is_driven = self.driver.is_some() && GROUPS[1].contains(&line.product);
+        if is_driven && self.driver != Some(line.product) {
+            return false;
+        }
+        let is_first = line.place < PRODUCTS[line.product].first;
+        match which {
+            Which::Any => true,
+            Which::InFirst => is_first,
+            Which::PastFirst => !is_first,
+        }
+    }
+}
+
+fn amount(random: &mut Random, limits: Limits, size: Size, tick: u32) -> u32 {
+    let Limits { initial, expanded } = limits;
+    match size {
+        Size::Initial => initial,
+        Size::Expanded => expanded,
+        Size::BelowInitial => initial - tick,
+        Size::BelowExpanded => expanded - tick,
+        Size::Between => tick * random.between(initial / tick, expanded / tick),
+    }
+}
+
+/// Up or down by a size, where the result is a settlement.
+fn moved(random: &mut Random, last: u32, size: u32, tick: u32) -> Option<u32> {
+    let up = (last + size <= LARGEST_PRICE).then_some(last + size);
+    let down = (last >= size + tick).then(|| last - size);
+    let (first, second) = match random.one_in(2) {
+        true => (up, down),
+        false => (down, up),
+    };
+    first.or(second)
+}
+
+/// Near the product's price, now and then anywhere.
+fn new_settlement(random: &mut Random, price: u32, tick: u32) -> u32 {
+    if random.one_in(12) {
+        let half = (price / 2 / tick).max(1);
+        return random.pick(&[tick, LARGEST_PRICE, tick * half]);
+    }
+    let highest = (price + price / 8 + 2 * tick).min(LARGEST_PRICE);
+    tick * random.between((price / tick).max(1), highest / tick)
+}
+
+fn sheet(product: usize, lines: &[Line]) -> SheetCall {
+    let own = || lines.iter().filter(move |line| line.product == product);
+    SheetCall {
+        product: product as u32,
+        months: own().map(|line| line.month).collect(),
+        settlements: own().map(|line| line.settlement).collect(),
+    }
+}

@@ -1,0 +1,19 @@
+//! Histories drawn from a seed, steered by this implementation's own book.
+
+pub mod calendar;
+pub mod compare;
+pub mod coverage;
+pub mod days;
+pub mod faults;
+pub mod garbage;
+pub mod jobs;
+pub mod listing;
+pub mod market;
+pub mod pace;
+pub mod scenario;
+pub mod side_by_side;
+pub mod stray;
+pub mod temper;
+pub mod text;
+pub mod view;
+pub mod writer;

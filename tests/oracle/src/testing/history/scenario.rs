@@ -1,0 +1,263 @@
+//! A whole history from a seed.
+
+use super::calendar::calendar;
+use super::coverage::Coverage;
+use super::pace;
+use super::temper::{self, Temper};
+use super::writer::Writer;
+use super::{faults, stray};
+use crate::book::{Book, GROUP_COUNT};
+use crate::history::call::{Call, SheetCall};
+use crate::testing::random::Random;
+
+/// How many lines a history has, about.
+pub const LINES: usize = 2_000;
+
+pub struct History {
+    pub text: Vec<u8>,
+    pub coverage: Coverage,
+}
+
+struct Scenario {
+    random: Random,
+    writer: Writer,
+    temper: Temper,
+    /// The place of the next day in the calendar.
+    today: usize,
+    /// Days ended so far.
+    ended: usize,
+}
+
+/// Draws a history of about 2,000 lines.
+pub fn history(seed: u64) -> History {
+    history_of(seed, LINES)
+}
+
+pub fn history_of(seed: u64, lines: usize) -> History {
+    let mut random = Random::new(seed.wrapping_mul(0x5851_F42D_4C95_7F2D) + 1);
+    let temper = temper::draw(&mut random, seed);
+    let mut scenario = Scenario {
+        today: temper.first_day,
+        writer: Writer::new(seed),
+        random,
+        temper,
+        ended: 0,
+    };
+    scenario.before_founding();
+    while scenario.writer.lines < lines {
+        scenario.day();
+    }
+    scenario.close();
+    History {
+        text: scenario.writer.text,
+        coverage: scenario.writer.coverage,
+    }
+}
+
+impl Scenario {
+    fn book(&self) -> &Book {
+        self.writer.book.as_ref().expect("a book was founded")
+    }
+
+    fn call(&mut self, call: Call) -> String {
+        self.writer.call(&call)
+    }
+
+    fn before_founding(&mut self) {
+        if self.random.one_in(2) {
+            let calls = [
+                Call::End,
+                Call::Book,
+                Call::Open([2024, 6, 27, 1]),
+                Call::Check([0; 4]),
+            ];
+            let call = self.random.pick(&[0, 1, 2, 3]);
+            self.call(calls[call].clone());
+            let bare = stray::bare(&mut self.random);
+            self.call(bare);
+            let limits = stray::unfit_limits(&mut self.random);
+            self.call(Call::Found(limits));
+        }
+        self.found();
+    }
+
+    fn found(&mut self) {
+        self.call(Call::Found(self.temper.limits));
+        if self.random.one_in(4) {
+            self.call(Call::Book);
+        }
+    }
+
+    /// Starts afresh with another temper.
+    fn found_afresh(&mut self) {
+        let turn = self.random.bits();
+        self.temper = temper::draw(&mut self.random, turn);
+        self.today = self.temper.first_day;
+        self.ended = 0;
+        self.found();
+    }
+
+    fn day(&mut self) {
+        self.stray_while_closed();
+        let left = pace::left_of(&mut self.random, self.today, self.temper.has_strange_left);
+        let date = calendar().days[self.today];
+        let next = [date.year(), date.month(), date.day(), left];
+        if self.takes_chance() {
+            let book = self.writer.book.as_ref().expect("a book was founded");
+            let call = stray::false_opening(&mut self.random, book, next);
+            self.call(call);
+        }
+        self.call(Call::Open(next));
+        if self.takes_chance() {
+            self.call(Call::End);
+        }
+        self.sheets();
+        self.stray_while_open();
+        self.call(Call::End);
+        self.ended += 1;
+        if self.random.one_in(12) {
+            self.call(Call::Book);
+        }
+        let next = pace::next_day(&mut self.random, self.temper.pace, self.today, self.ended);
+        match next {
+            Some(next) if !self.random.one_in(300) => self.today = next,
+            _ => self.found_afresh(),
+        }
+    }
+
+    fn takes_chance(&mut self) -> bool {
+        self.random.one_in(self.temper.quiet)
+    }
+
+    /// Files eight sheets in any order, with strays between them.
+    fn sheets(&mut self) {
+        let mut sheets: Vec<SheetCall> = (0..GROUP_COUNT)
+            .flat_map(|group| {
+                let book = self.writer.book.as_ref().expect("a book was founded");
+                self.temper.market.draft(&mut self.random, book, group)
+            })
+            .collect();
+        self.random.shuffle(&mut sheets);
+        for sheet in sheets {
+            if self.takes_chance() {
+                self.spoiled(&sheet);
+            }
+            self.call(Call::Sheet(sheet.clone()));
+            if self.takes_chance() {
+                self.stray_while_open();
+            }
+            if self.takes_chance() && self.random.one_in(3) {
+                self.call(Call::Sheet(sheet.clone()));
+                self.spoiled(&sheet);
+            }
+        }
+    }
+
+    fn spoiled(&mut self, good: &SheetCall) {
+        let book = self.writer.book.as_ref().expect("a book was founded");
+        let call = faults::spoil(&mut self.random, book, good);
+        // What a fault did not reach stays good, and is filed in its turn.
+        if call != *good {
+            self.call_refused(Call::Sheet(call));
+        }
+    }
+
+    /// Writes a call only if the book refuses it.
+    fn call_refused(&mut self, call: Call) {
+        let mut book = self.writer.book.clone();
+        let answer = crate::history::answer::answer(&mut book, &call);
+        if answer.starts_with("refused") {
+            self.call(call);
+        }
+    }
+
+    fn stray_while_open(&mut self) {
+        let random = &mut self.random;
+        let book = self.writer.book.as_ref().expect("a book was founded");
+        let lively = stray::lively_product(random, book);
+        match random.below(12) {
+            0 => drop(self.call(Call::Book)),
+            1 => self.call_refused(Call::End),
+            2 => {
+                let call = stray::false_opening(random, book, [2050, 6, 1, 3]);
+                self.call(call);
+            }
+            3 | 4 => {
+                let call = stray::false_check(random, book);
+                self.call(call);
+            }
+            5 => self.stray_anytime(),
+            6 => {
+                let call = stray::check_of(random, book, lively);
+                self.call(call);
+            }
+            _ => {
+                let call = stray::check(random, book);
+                self.call(call);
+            }
+        }
+    }
+
+    fn stray_anytime(&mut self) {
+        match self.random.below(6) {
+            0 => {
+                let limits = stray::unfit_limits(&mut self.random);
+                self.call(Call::Found(limits));
+            }
+            1 | 2 => {
+                let call = stray::bare(&mut self.random);
+                self.call(call);
+            }
+            _ => {
+                let line = stray::no_call(&mut self.random);
+                self.writer.line(&line);
+            }
+        }
+    }
+
+    fn stray_while_closed(&mut self) {
+        if !self.takes_chance() {
+            return;
+        }
+        let random = &mut self.random;
+        let book = self.writer.book.as_ref().expect("a book was founded");
+        match random.below(6) {
+            0 => drop(self.call(Call::End)),
+            1 => {
+                let call = stray::check(random, book);
+                self.call(call);
+            }
+            2 => {
+                let call = stray::false_check(random, book);
+                self.call(call);
+            }
+            3 => self.stray_sheet_while_closed(),
+            _ => self.stray_anytime(),
+        }
+    }
+
+    /// The last ended sheet again, at times with faults.
+    fn stray_sheet_while_closed(&mut self) {
+        let product = self.random.below(8);
+        let last = self.book().last_ended[product].clone().unwrap_or_default();
+        let mut sheet = SheetCall {
+            product: self.random.pick(&[product as u32, product as u32, 8]),
+            months: last.iter().map(|entry| entry.month).collect(),
+            settlements: last.iter().map(|entry| entry.settlement).collect(),
+        };
+        match self.random.below(4) {
+            0 => sheet.months.reverse(),
+            1 => sheet.settlements.iter_mut().for_each(|one| *one = 0),
+            2 => drop(sheet.settlements.pop()),
+            _ => {}
+        }
+        self.call(Call::Sheet(sheet));
+    }
+
+    fn close(&mut self) {
+        self.call(Call::Book);
+        if self.random.one_in(5) {
+            self.writer.drop_last_newline();
+        }
+    }
+}

@@ -1,0 +1,308 @@
+//! Pairs of histories that agree on a group's sheets, and on openings and ends, and on no more.
+
+use super::calendar::calendar;
+use super::compare::{lines, shown};
+use super::pace;
+use super::temper::{self, Temper};
+use super::text;
+use super::view::{self, Kind};
+use super::{faults, stray};
+use crate::book::{Book, GROUPS, GROUP_COUNT};
+use crate::history::answer;
+use crate::history::call::{Call, SheetCall};
+use crate::testing::random::Random;
+
+const DAYS: usize = 60;
+
+/// One of the two histories.
+pub struct Side {
+    pub text: Vec<u8>,
+    /// The places among the answers that both sides have to agree on.
+    pub probes: Vec<(usize, Kind)>,
+    random: Random,
+    temper: Temper,
+    book: Option<Book>,
+    answered: usize,
+}
+
+pub struct Pair {
+    pub group: usize,
+    pub sides: [Side; 2],
+}
+
+/// What both sides do on a day: the opening, the group's sheets, and checks of the group.
+struct Agreed {
+    opening: [u32; 4],
+    sheets: Vec<SheetCall>,
+    checks: Vec<Call>,
+}
+
+/// Draws a pair for a group.
+pub fn pair(group: usize, seed: u64) -> Pair {
+    let mut random = Random::new(seed ^ (group as u64) << 32 ^ 0x51DE);
+    let mut sides = [0, 1].map(|side| Side::new(&mut random, seed, side));
+    let [first, second] = &mut sides;
+    for &product in GROUPS[group] {
+        second.temper.limits[product] = first.temper.limits[product];
+    }
+    if random.one_in(2) {
+        second.temper.limits = first.temper.limits;
+    }
+    sides.iter_mut().for_each(Side::found);
+    let mut pair = Pair { group, sides };
+    pair.live(&mut random);
+    pair
+}
+
+impl Pair {
+    fn live(&mut self, random: &mut Random) {
+        let mut today = self.sides[0].temper.first_day;
+        for ended in 1..=DAYS {
+            let agreed = self.agree(random, today);
+            for side in &mut self.sides {
+                side.day(self.group, &agreed, ended < DAYS);
+            }
+            let pace = self.sides[0].temper.pace;
+            match pace::next_day(random, pace, today, ended) {
+                Some(next) => today = next,
+                None => return,
+            }
+        }
+    }
+
+    /// Draws what both sides do, on a copy of the first side's book.
+    fn agree(&self, random: &mut Random, today: usize) -> Agreed {
+        let side = &self.sides[0];
+        let date = calendar().days[today];
+        let left = pace::left_of(random, today, side.temper.has_strange_left);
+        let opening = [date.year(), date.month(), date.day(), left];
+        let mut book = side.book.clone();
+        answer::answer(&mut book, &Call::Open(opening));
+        let book = book.expect("a book was founded");
+        let checks = (0..random.below(5)).map(|_| {
+            let product = GROUPS[self.group][random.below(GROUPS[self.group].len())];
+            check(random, &book, product)
+        });
+        Agreed {
+            opening,
+            checks: checks.collect(),
+            sheets: side.temper.market.draft(random, &book, self.group),
+        }
+    }
+
+    /// What a program answered differently on the two sides, if anything.
+    pub fn difference(&self, outputs: [&[u8]; 2]) -> Option<String> {
+        let answers = outputs.map(lines);
+        let probes = self.sides.each_ref().map(|side| &side.probes);
+        assert_eq!(
+            probes[0].len(),
+            probes[1].len(),
+            "the sides agree on what is compared"
+        );
+        let pairs = probes[0].iter().zip(probes[1]);
+        for (number, (first, second)) in pairs.enumerate() {
+            let seen =
+                [(0, first), (1, second)].map(|(side, probe)| self.part(&answers[side], probe));
+            if seen[0].is_none() || seen[0] != seen[1] {
+                return Some(format!(
+                    "probe {number} ({:?}): the one side answers {}, the other {}",
+                    first.1,
+                    shown(answers[0].get(first.0).copied()),
+                    shown(answers[1].get(second.0).copied()),
+                ));
+            }
+        }
+        None
+    }
+
+    fn part(&self, answers: &[&[u8]], (place, kind): &(usize, Kind)) -> Option<String> {
+        let answer = std::str::from_utf8(answers.get(*place)?).ok()?;
+        view::part(*kind, self.group, answer)
+    }
+}
+
+/// A check of a product, at times a false one.
+fn check(random: &mut Random, book: &Book, product: usize) -> Call {
+    if !random.one_in(5) {
+        return stray::check_of(random, book, product);
+    }
+    match stray::false_check(random, book) {
+        Call::Check([_, size, month, price]) => Call::Check([product as u32, size, month, price]),
+        other => other,
+    }
+}
+
+/// A step of an open day.
+#[derive(Clone)]
+enum Step {
+    Sheet(SheetCall),
+    Agreed(Call),
+}
+
+impl Side {
+    fn new(random: &mut Random, seed: u64, side: u64) -> Side {
+        let mut own = Random::new(random.bits() ^ side);
+        let temper = temper::draw(&mut own, seed);
+        Side {
+            text: Vec::new(),
+            probes: Vec::new(),
+            random: own,
+            temper,
+            book: None,
+            answered: 0,
+        }
+    }
+
+    fn found(&mut self) {
+        self.call(&Call::Found(self.temper.limits));
+    }
+
+    fn call(&mut self, call: &Call) {
+        answer::answer(&mut self.book, call);
+        self.text.extend_from_slice(text::line(call).as_bytes());
+        self.text.push(b'\n');
+        self.answered += 1;
+    }
+
+    fn probe(&mut self, call: &Call, kind: Kind) {
+        self.probes.push((self.answered, kind));
+        self.call(call);
+    }
+
+    /// Writes a call only if the book refuses it.
+    fn call_refused(&mut self, call: &Call) {
+        let mut book = self.book.clone();
+        if answer::answer(&mut book, call).starts_with("refused") {
+            self.call(call);
+        }
+    }
+
+    fn day(&mut self, group: usize, agreed: &Agreed, ends: bool) {
+        self.refused_while_closed(agreed.opening);
+        self.probe(&Call::Open(agreed.opening), Kind::Opened);
+        for step in self.steps(group, agreed) {
+            self.stray(&step);
+            match step {
+                Step::Sheet(sheet) => self.call(&Call::Sheet(sheet)),
+                Step::Agreed(check) => self.probe(&check, Kind::Check),
+            }
+        }
+        self.probe(&Call::Book, Kind::Book);
+        if ends {
+            self.probe(&Call::End, Kind::Ended);
+            self.probe(&Call::Book, Kind::Book);
+        }
+    }
+
+    /// The group's sheets and this side's own, in any order; agreed checks keep theirs.
+    fn steps(&mut self, group: usize, agreed: &Agreed) -> Vec<Step> {
+        let mut sheets = agreed.sheets.clone();
+        for other in (0..GROUP_COUNT).filter(|&other| other != group) {
+            let book = self.book.as_ref().expect("a book was founded");
+            sheets.extend(self.temper.market.draft(&mut self.random, book, other));
+        }
+        self.random.shuffle(&mut sheets);
+        let mut steps: Vec<Step> = sheets.into_iter().map(Step::Sheet).collect();
+        let mut from = 0;
+        for check in &agreed.checks {
+            let place = from + self.random.below(steps.len() + 1 - from);
+            steps.insert(place, Step::Agreed(check.clone()));
+            from = place + 1;
+        }
+        steps
+    }
+
+    fn refused_while_closed(&mut self, opening: [u32; 4]) {
+        let book = self.book.as_ref().expect("a book was founded");
+        let calls = [
+            Call::End,
+            stray::check(&mut self.random, book),
+            stray::false_opening(&mut self.random, book, opening),
+            Call::Found(stray::unfit_limits(&mut self.random)),
+        ];
+        for call in calls {
+            if self.random.one_in(4) {
+                self.call_refused(&call);
+            }
+        }
+    }
+
+    /// Refused calls, checks and lines that are no call, drawn by this side alone.
+    fn stray(&mut self, step: &Step) {
+        if self.random.one_in(2) {
+            return;
+        }
+        let book = self.book.as_ref().expect("a book was founded");
+        let call = match (self.random.below(6), step) {
+            (0 | 1, Step::Sheet(sheet)) => {
+                let sheet = faults::spoil(&mut self.random, book, sheet);
+                return self.call_refused(&Call::Sheet(sheet));
+            }
+            (2, _) => return self.call_refused(&Call::End),
+            (3, _) => stray::bare(&mut self.random),
+            (4, _) => stray::false_check(&mut self.random, book),
+            _ => stray::check(&mut self.random, book),
+        };
+        self.call(&call);
+    }
+}
+
+#[cfg(test)]
+mod tests {
+    use super::*;
+    use crate::history::replay::answers;
+
+    #[test]
+    fn this_implementation_keeps_groups_apart() {
+        for group in 0..GROUP_COUNT {
+            for seed in 0..7 {
+                let pair = pair(group, seed);
+                let outputs = pair.sides.each_ref().map(|side| answers(&side.text));
+                assert_ne!(outputs[0], outputs[1]);
+                assert_eq!(pair.difference([&outputs[0], &outputs[1]]), None);
+                let refused = String::from_utf8_lossy(&outputs[0]).contains("refused");
+                assert!(refused, "refused calls are among them");
+            }
+        }
+    }
+
+    #[test]
+    fn the_pairs_of_each_group_reach_events_and_seasons() {
+        for group in 0..GROUP_COUNT {
+            let mut seen = String::new();
+            for seed in 0..14 {
+                let pair = pair(group, seed);
+                let answers = answers(&pair.sides[0].text);
+                let answers = lines(&answers);
+                for probe in &pair.sides[0].probes {
+                    let part = pair
+                        .part(&answers, probe)
+                        .expect("nothing agreed is refused");
+                    seen.push_str(&format!("{:?} {part}\n", probe.1));
+                }
+            }
+            for word in [
+                "triggered",
+                "held",
+                "reverted",
+                "raised",
+                "Opened 1",
+                "free",
+                "above",
+            ] {
+                assert!(seen.contains(word), "group {group}: {word}");
+            }
+        }
+    }
+
+    #[test]
+    fn a_difference_in_the_group_is_seen() {
+        let pair = pair(0, 3);
+        let outputs = pair.sides.each_ref().map(|side| answers(&side.text));
+        let text = String::from_utf8(outputs[1].clone()).expect("answers are text");
+        let other = text.replace("left=1 level=0", "left=1 level=1");
+        assert_ne!(text, other);
+        assert!(pair.difference([&outputs[0], other.as_bytes()]).is_some());
+        assert!(pair.difference([&outputs[0], b""]).is_some());
+    }
+}

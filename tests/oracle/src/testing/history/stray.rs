@@ -1,0 +1,221 @@
+//! Calls beside the course of the day: checks, bare checks, false openings, lines that are no call.
+
+use crate::book::Book;
+use crate::history::call::Call;
+use crate::prices::LARGEST_PRICE;
+use crate::products::PRODUCTS;
+use crate::testing::random::Random;
+
+/// Limits that found a book.
+pub fn fit_limits(random: &mut Random) -> [u32; 8] {
+    std::array::from_fn(|product| {
+        let row = &PRODUCTS[product];
+        let most = random.pick(&[0, 0, 3, 20, 20, 200]);
+        row.floor + row.step * random.between(0, most)
+    })
+}
+
+/// Limits of which one or more are unfit.
+pub fn unfit_limits(random: &mut Random) -> [u32; 8] {
+    let mut limits = fit_limits(random);
+    for _ in 0..random.between(1, 2) {
+        let product = random.below(8);
+        let row = &PRODUCTS[product];
+        let drawn = random.word() | 1;
+        let choices = [
+            0,
+            row.floor - row.step,
+            row.floor + 1,
+            1_000_000 + row.step,
+            drawn,
+        ];
+        limits[product] = random.pick(&choices);
+    }
+    limits
+}
+
+/// An opening that is false by its date, by its left, or by coming too late.
+pub fn false_opening(random: &mut Random, book: &Book, next: [u32; 4]) -> Call {
+    let [year, month, day, left] = next;
+    let last = book.date.unwrap_or([2000, 1, 1]);
+    let common_year = 4 * (year / 4).clamp(500, 523) + 1;
+    let [last_year, last_month, last_day] = last;
+    Call::Open(match random.below(9) {
+        0 => [year, month, day, random.pick(&[31, 32, u32::MAX])],
+        1 => [year, random.pick(&[0, 13, u32::MAX]), day, left],
+        2 => [year, month, random.pick(&[0, 32, u32::MAX]), left],
+        3 => [common_year, 2, 29, 0],
+        4 => [
+            random.pick(&[0, 1999, 2099, 2100, u32::MAX]),
+            month,
+            day,
+            left,
+        ],
+        5 => [last_year, last_month, last_day, 0],
+        6 => [last_year.max(2001) - 1, last_month, last_day.min(28), 0],
+        7 => [last_year, last_month, last_day, 31],
+        _ => [
+            random.pick(&[2023, 2024, 2025]),
+            random.pick(&[4, 6, 9, 11]),
+            31,
+            0,
+        ],
+    })
+}
+
+/// A check that mostly asks for a listed contract at the edges of its limit.
+pub fn check(random: &mut Random, book: &Book) -> Call {
+    let product = random.below(8);
+    check_of(random, book, product)
+}
+
+/// A check of a given product.
+pub fn check_of(random: &mut Random, book: &Book, product: usize) -> Call {
+    let row = &PRODUCTS[product];
+    let size = match row.mini_tick {
+        Some(_) => random.below(2) as u32,
+        None => 0,
+    };
+    let month = listed_month(random, book, product);
+    let price = price(random, book, product, (size, month));
+    Call::Check([product as u32, size, month, price])
+}
+
+/// A month of the last ended sheet; any, where there is none.
+fn listed_month(random: &mut Random, book: &Book, product: usize) -> u32 {
+    match &book.last_ended[product] {
+        Some(sheet) if random.one_in(3) => sheet[0].month,
+        Some(sheet) => sheet[random.below(sheet.len())].month,
+        None => 24_294,
+    }
+}
+
+fn price(random: &mut Random, book: &Book, product: usize, (size, month): (u32, u32)) -> u32 {
+    let tick = PRODUCTS[product].tick(size).unwrap_or(1);
+    let last = book.last_settlement(product, month).unwrap_or(6_000);
+    let limits = book.limits[product];
+    let limit = random.pick(&[limits.initial, limits.expanded, book.limit_today(product)]);
+    let any = tick * random.between(1, LARGEST_PRICE / tick);
+    let near = [
+        last,
+        last + limit,
+        last + limit + tick,
+        last.saturating_sub(limit),
+        last.saturating_sub(limit + tick),
+        any,
+    ];
+    match random.pick(&near) {
+        price if price == 0 || price > LARGEST_PRICE => any,
+        price => price,
+    }
+}
+
+/// A check with one or two faults.
+pub fn false_check(random: &mut Random, book: &Book) -> Call {
+    let Call::Check(mut numbers) = check(random, book) else {
+        unreachable!("a check is a check");
+    };
+    for _ in 0..random.between(1, 2) {
+        match random.below(4) {
+            0 => numbers[0] = random.pick(&[8, 9, 256, u32::MAX]),
+            1 => numbers[1] = random.pick(&[1, 2, 256, u32::MAX]),
+            2 => numbers[2] = random.pick(&[0, 24_290, numbers[2] ^ 1, u32::MAX, u32::MAX - 1]),
+            _ => numbers[3] = random.pick(&[0, numbers[3] | 1, LARGEST_PRICE + 2, u32::MAX]),
+        }
+    }
+    Call::Check(numbers)
+}
+
+/// A bare check, at times with one or two faults.
+pub fn bare(random: &mut Random) -> Call {
+    let product = random.below(8);
+    let row = &PRODUCTS[product];
+    let settlement = 2 * random.between(1, LARGEST_PRICE / 2);
+    let amount = row.step * random.between(row.floor / row.step, 2_000);
+    let spot = random.pick(&[0, 0, 0, 1, 256, u32::MAX]);
+    let far = random.pick(&[0, amount, amount + 2, 2 * amount]);
+    let price = random.pick(&[settlement + far, settlement.saturating_sub(far)]);
+    let size = u32::from(row.mini_tick.is_some() && random.one_in(2));
+    let mut numbers = [product as u32, size, settlement, amount, spot, price];
+    for _ in 0..random.pick(&[0, 0, 1, 2]) {
+        match random.below(4) {
+            0 => numbers[0] = random.pick(&[8, u32::MAX]),
+            1 => numbers[2] = random.pick(&[0, settlement + 1, LARGEST_PRICE + 2]),
+            2 => numbers[3] = random.pick(&[0, amount + 1, row.floor - row.step, 2_000_050]),
+            _ => numbers[5] = random.pick(&[0, price | 1, u32::MAX]),
+        }
+    }
+    Call::Bare(numbers)
+}
+
+/// A product whose group is expanded, if there is one.
+pub fn lively_product(random: &mut Random, book: &Book) -> usize {
+    let drawn = random.below(8);
+    let mut products = (0..8).map(|step| (drawn + step) % 8);
+    let is_lively = |&product: &usize| book.limit_today(product) > book.limits[product].initial;
+    products.find(is_lively).unwrap_or(drawn)
+}
+
+const NO_CALLS: [&str; 40] = [
+    " ",
+    "  ",
+    " end",
+    "end ",
+    "end\r",
+    "end\t",
+    "\tend",
+    "End",
+    "END",
+    "end 1",
+    "ends",
+    "book 1",
+    "book ",
+    "open",
+    "open 2024 6 27",
+    "open 2024 6 27 1 1",
+    "open 2024  6 27 1",
+    "open 2024 6 27 -1",
+    "open +2024 6 27 1",
+    "open 2024 6 27 4294967296",
+    "open 2024 6 27 99999999999999999999999999",
+    "open 2024 6 27 1.0",
+    "open 2024-6-27 1",
+    "found",
+    "found 200 400 200 200 240 240 160",
+    "found 200 400 200 200 240 240 160 100 100",
+    "sheet",
+    "sheet 0",
+    "sheet 0 months",
+    "sheet 0 months 24294",
+    "sheet 0 months 24294 6000",
+    "sheet 0 settlements 6000 months 24294",
+    "sheet 0 months 24294 settlements 6000 settlements 6000",
+    "sheet 0 months 24294 settlements 6000 ",
+    "sheet 0 months  settlements",
+    "sheet 0 months 4294967296 settlements 1",
+    "sheet months 24294 settlements 6000",
+    "check 0 0 24294",
+    "bare 0 0 6000 200 0 6000 0",
+    "opened 0 0 0 0 0 0 0 0",
+];
+
+/// A line that is no call, passed over or not.
+pub fn no_call(random: &mut Random) -> Vec<u8> {
+    match random.below(12) {
+        0 => Vec::new(),
+        1 => b"# end".to_vec(),
+        2 => vec![b'#'; random.pick(&[1, 2, 100_000])],
+        3 => vec![random.bits() as u8 | 0x80; 1 + random.below(9)],
+        4 => long_no_call(random),
+        _ => random.pick(&NO_CALLS).as_bytes().to_vec(),
+    }
+}
+
+/// A long sheet whose last number has more than 32 bits, or a number that never ends.
+fn long_no_call(random: &mut Random) -> Vec<u8> {
+    let months = " 24294".repeat(random.pick(&[16, 17, 700]));
+    match random.one_in(2) {
+        true => format!("sheet 0 months{months} settlements 1 4294967296").into_bytes(),
+        false => format!("check 0 0 24294 {}", "9".repeat(3_000)).into_bytes(),
+    }
+}
