@@ -2,17 +2,17 @@
 // These functions are exported for the calls on a book; most ask for a count of at most 16, which a sound book has.
 use record::Contract;
 
+mod arrays;
 mod changes;
-mod filing;
 mod lookup;
 mod tests;
 
+pub use arrays::is_misshapen;
+pub use arrays::no_sheet;
+pub use arrays::sheet_of;
 pub use changes::distance;
 pub use changes::is_beyond;
 pub use changes::lacks_contract;
-pub use filing::is_misshapen;
-pub use filing::no_sheet;
-pub use filing::sheet_of;
 pub use lookup::Listed;
 pub use lookup::find;
 pub use tests::are_settlements;

@@ -1,0 +1,49 @@
+use Prim.Native.Nat.{_-_}
+use borrow.Author.Needs.{needs}
+use Rattle.print.proofs.columns.put_levels.Statement.{statement}
+use Rattle.print.proofs.columns.put_levels.Tie as tie
+
+abbrev Inv-loop : tie.InvT-loop
+Inv-loop out₀ at standings end₀ g₀ out end g = Unit {0}
+
+abbrev μ-loop : tie.MeasureT-loop
+μ-loop out₀ at standings end₀ g₀ out end g = 6 - g
+
+loop-holds : tie.Need-loop-holds Inv-loop μ-loop
+loop-holds c = search needs
+
+mul-s : tie.Need-mul-s Inv-loop μ-loop
+mul-s c = search needs
+
+array-copy-out-s : tie.Need-array-copy-out-s Inv-loop μ-loop
+array-copy-out-s c = search needs
+
+put-bit-requires : tie.Need-put-bit-requires Inv-loop μ-loop
+put-bit-requires c κs = search needs
+
+add-g : tie.Need-add-g Inv-loop μ-loop
+add-g c = search needs
+
+loop-less : tie.Need-loop-less Inv-loop μ-loop
+loop-less c = search needs
+
+loop-again : tie.Need-loop-again Inv-loop μ-loop
+loop-again c = search needs
+
+returns : tie.Need-returns Inv-loop μ-loop
+returns c = search needs
+
+pub put-levels-spec : {M : Type 1} → statement M
+put-levels-spec =
+    tie.close
+    (tie.spec
+    Inv-loop
+    μ-loop
+    loop-holds
+    mul-s
+    array-copy-out-s
+    put-bit-requires
+    add-g
+    loop-less
+    loop-again
+    returns)

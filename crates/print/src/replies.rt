@@ -1,0 +1,70 @@
+// The lines that answer the calls, but for the book's own.
+use crate::output::Buffer;
+use crate::output::put;
+use crate::output::put_bit;
+use crate::output::put_byte;
+use crate::output::put_number;
+use ending::GroupEvent;
+use grain::Verdict;
+use record::Event;
+use record::Lead;
+
+pub fn put_refusal(out: &mut Buffer, at: usize, refusal: u32) -> usize {
+    let a = put(out, at, b"refused ");
+    let b = put_number(out, a, refusal);
+    put_byte(out, b, b'\n')
+}
+
+pub fn put_verdict(out: &mut Buffer, at: usize, verdict: Verdict) -> usize {
+    match verdict {
+        Verdict::Free => put(out, at, b"free\n"),
+        Verdict::Within => put(out, at, b"within\n"),
+        Verdict::Below => put(out, at, b"below\n"),
+        Verdict::Above => put(out, at, b"above\n"),
+    }
+}
+
+pub fn put_renewed(out: &mut Buffer, at: usize, renewed: [bool; 8]) -> usize {
+    let mut end = put(out, at, b"opened");
+    for p in 0..8usize {
+        end = put_byte(out, end, b' ');
+        end = put_bit(out, end, renewed[p]);
+    }
+    put_byte(out, end, b'\n')
+}
+
+fn put_lead(out: &mut Buffer, at: usize, lead: Lead) -> usize {
+    let a = put_byte(out, at, b':');
+    let b = put_number(out, a, lead.month);
+    let c = put_byte(out, b, b':');
+    put_number(out, c, lead.product)
+}
+
+fn put_event(out: &mut Buffer, at: usize, event: Event) -> usize {
+    match event {
+        Event::Quiet => put(out, at, b" quiet"),
+        Event::Triggered(lead) => {
+            let a = put(out, at, b" triggered");
+            put_lead(out, a, lead)
+        }
+        Event::Held(lead) => {
+            let a = put(out, at, b" held");
+            put_lead(out, a, lead)
+        }
+        Event::Reverted => put(out, at, b" reverted"),
+        Event::Raised(lead) => {
+            let a = put(out, at, b" raised");
+            put_lead(out, a, lead)
+        }
+    }
+}
+
+pub fn put_events(out: &mut Buffer, at: usize, events: [GroupEvent; 6]) -> usize {
+    let mut end = put(out, at, b"ended");
+    for g in 0..6usize {
+        let e = events[g];
+        let event = e.event;
+        end = put_event(out, end, event);
+    }
+    put_byte(out, end, b'\n')
+}

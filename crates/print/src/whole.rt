@@ -1,0 +1,79 @@
+// The whole book as one line.
+use crate::columns::put_expandeds;
+use crate::columns::put_initials;
+use crate::columns::put_levels;
+use crate::columns::put_marks;
+use crate::columns::put_sheets;
+use crate::columns::put_windows;
+use crate::output::Buffer;
+use crate::output::put;
+use crate::output::put_byte;
+use crate::output::put_number;
+use book::Book;
+use record::Day;
+
+fn put_open(out: &mut Buffer, at: usize, trading: bool) -> usize {
+    if trading {
+        return put(out, at, b"book open=1");
+    }
+    put(out, at, b"book open=0")
+}
+
+fn put_date(out: &mut Buffer, at: usize, day: Day) -> usize {
+    if book::is_no_day(day) {
+        return put(out, at, b" date=none");
+    }
+    let a = put(out, at, b" date=");
+    let b = put_number(out, a, day.year);
+    let c = put_byte(out, b, b'-');
+    let d = put_number(out, c, day.month);
+    let e = put_byte(out, d, b'-');
+    put_number(out, e, day.day)
+}
+
+fn put_left(out: &mut Buffer, at: usize, trading: bool, left: u32) -> usize {
+    if trading {
+        let a = put(out, at, b" left=");
+        return put_number(out, a, left);
+    }
+    put(out, at, b" left=-")
+}
+
+fn put_groups(out: &mut Buffer, at: usize, b: Book) -> usize {
+    let standings = b.standings;
+    let c = put(out, at, b" level=");
+    let d = put_levels(out, c, standings);
+    let e = put(out, d, b" mark=");
+    put_marks(out, e, standings)
+}
+
+fn put_products(out: &mut Buffer, at: usize, b: Book) -> usize {
+    let limits = b.limits;
+    let c = put(out, at, b" I=");
+    let d = put_initials(out, c, limits);
+    let e = put(out, d, b" E=");
+    let f = put_expandeds(out, e, limits);
+    let w = b.windows;
+    let g = put(out, f, b" windows=");
+    put_windows(out, g, w)
+}
+
+fn put_days(out: &mut Buffer, at: usize, b: Book) -> usize {
+    let today = b.today;
+    let c = put(out, at, b" in=");
+    let d = put_sheets(out, c, today);
+    let last = b.last;
+    let e = put(out, d, b" last=");
+    put_sheets(out, e, last)
+}
+
+pub fn put_book(out: &mut Buffer, at: usize, b: Book) -> usize {
+    let day = b.day;
+    let c = put_open(out, at, b.trading);
+    let d = put_date(out, c, day);
+    let e = put_left(out, d, b.trading, day.left);
+    let f = put_groups(out, e, b);
+    let g = put_products(out, f, b);
+    let h = put_days(out, g, b);
+    put_byte(out, h, b'\n')
+}

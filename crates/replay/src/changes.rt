@@ -1,0 +1,125 @@
+// The calls after which the book may be another: what they answer, and the book then.
+use crate::asked::Change;
+use crate::line::Entries;
+use crate::line::Numbers;
+use book::Book;
+use print::Buffer;
+use print::put;
+use print::put_events;
+use print::put_refusal;
+use print::put_renewed;
+
+pub struct State {
+    pub founded: bool,
+    // Of no account where none was founded.
+    pub book: Book,
+    // How much of the output's buffer is taken.
+    pub at: usize,
+}
+
+// Before the first call.
+pub fn fresh() -> State {
+    let refused = book::found([0; 8]);
+    let book = refused.book;
+    State {
+        founded: false,
+        book,
+        at: 0,
+    }
+}
+
+fn found(s: State, numbers: &Numbers, out: &mut Buffer) -> State {
+    let f = book::found(*numbers);
+    if f.refusal != 0 {
+        let mut n = s;
+        n.at = put_refusal(out, s.at, f.refusal);
+        return n;
+    }
+    let book = f.book;
+    let at = put(out, s.at, b"founded\n");
+    State {
+        founded: true,
+        book,
+        at,
+    }
+}
+
+fn open(s: State, numbers: &Numbers, out: &mut Buffer) -> State {
+    let b = s.book;
+    let o = opening::opening(b, numbers[0], numbers[1], numbers[2], numbers[3]);
+    let mut n = s;
+    if o.refusal != 0 {
+        n.at = put_refusal(out, s.at, o.refusal);
+        return n;
+    }
+    let renewed = o.renewed;
+    n.at = put_renewed(out, s.at, renewed);
+    let book = o.book;
+    n.book = book;
+    n
+}
+
+// The first n entries, or all where there are no more.
+fn first(entries: &[u32], n: usize) -> &[u32] {
+    if n < entries.len() {
+        return &entries[..n];
+    }
+    entries
+}
+
+fn sheet(s: State, product: u32, months: &[u32], settlements: &[u32], out: &mut Buffer) -> State {
+    let b = s.book;
+    let f = filing::sheet(b, product, months, settlements);
+    let mut n = s;
+    if f.refusal != 0 {
+        n.at = put_refusal(out, s.at, f.refusal);
+        return n;
+    }
+    n.at = put(out, s.at, b"filed\n");
+    let book = f.book;
+    n.book = book;
+    n
+}
+
+fn end(s: State, out: &mut Buffer) -> State {
+    let b = s.book;
+    let e = ending::end(b);
+    let mut n = s;
+    if e.refusal != 0 {
+        n.at = put_refusal(out, s.at, e.refusal);
+        return n;
+    }
+    let events = e.events;
+    n.at = put_events(out, s.at, events);
+    let book = e.book;
+    n.book = book;
+    n
+}
+
+fn without_book(s: State, out: &mut Buffer) -> State {
+    let mut n = s;
+    n.at = put(out, s.at, b"no book\n");
+    n
+}
+
+pub fn changed(
+    change: Change,
+    s: State,
+    numbers: &Numbers,
+    months: &Entries,
+    settlements: &Entries,
+    out: &mut Buffer,
+) -> State {
+    if let Change::Found = change {
+        return found(s, numbers, out);
+    }
+    if !s.founded {
+        return without_book(s, out);
+    }
+    match change {
+        Change::Found => found(s, numbers, out),
+        Change::Open => open(s, numbers, out),
+        Change::Sheet(m, n) => sheet(s, numbers[0], first(months, m), first(settlements, n), out),
+        Change::End => end(s, out),
+    }
+}

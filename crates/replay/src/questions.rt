@@ -1,0 +1,62 @@
+// The lines that leave the book as it is, and what they answer.
+use crate::asked::Question;
+use crate::changes::State;
+use crate::line::Numbers;
+use book::Book;
+use checking::Checked;
+use grain::Verdict;
+use print::Buffer;
+use print::put;
+use print::put_book;
+use print::put_refusal;
+use print::put_verdict;
+
+fn check(b: Book, numbers: &Numbers, out: &mut Buffer, at: usize) -> usize {
+    let checked = checking::check(b, numbers[0], numbers[1], numbers[2], numbers[3]);
+    match checked {
+        Checked::Is(verdict) => put_verdict(out, at, verdict),
+        Checked::Refused(refusal) => put_refusal(out, at, refusal),
+    }
+}
+
+// By the numbers that C programs are answered with.
+fn bare(numbers: &Numbers, out: &mut Buffer, at: usize) -> usize {
+    let n = gateway::botskhela_bare_check(
+        numbers[0],
+        numbers[1],
+        numbers[2],
+        numbers[3],
+        numbers[4],
+        numbers[5],
+    );
+    match n {
+        100 => put_verdict(out, at, Verdict::Free),
+        101 => put_verdict(out, at, Verdict::Within),
+        102 => put_verdict(out, at, Verdict::Below),
+        103 => put_verdict(out, at, Verdict::Above),
+        _ => put_refusal(out, at, n),
+    }
+}
+
+// How much of the buffer is taken then.
+pub fn told(question: Question, s: State, numbers: &Numbers, out: &mut Buffer) -> usize {
+    let at = s.at;
+    let b = s.book;
+    match question {
+        Question::Nothing => at,
+        Question::NotCall => put(out, at, b"not a call\n"),
+        Question::Bare => bare(numbers, out, at),
+        Question::Check => {
+            if s.founded {
+                return check(b, numbers, out, at);
+            }
+            put(out, at, b"no book\n")
+        }
+        Question::Book => {
+            if s.founded {
+                return put_book(out, at, b);
+            }
+            put(out, at, b"no book\n")
+        }
+    }
+}
