@@ -17,6 +17,18 @@ and-swap true false true d = refl
 and-swap true false false d = refl
 and-swap false b c d = refl
 
+-- true, and the third of five after the others
+pub and-late : (a b w c d : Bool) → true and a and b and w and c and d ≡ ((a and b) and c and d) and w
+unfolding _and_
+and-late true true true true true = refl
+and-late true true true true false = refl
+and-late true true true false d = refl
+and-late true true false true true = refl
+and-late true true false true false = refl
+and-late true true false false d = refl
+and-late true false w c d = refl
+and-late false b w c d = refl
+
 module _ {A : Type 0} (f : A → Bool) where
   every-joined : (l m : List A) → every f (l ++ m) ≡ every f l and every f m
   unfolding every _and_

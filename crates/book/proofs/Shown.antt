@@ -1,24 +1,21 @@
 -- The tests of soundness over a book's groups, as tests over the numbers of its products and of its groups.
-use Prim.Native.Nat.{ℕ, _<_}
+use Prim.Native.Nat.{ℕ}
 use mathlib.Core.Path.{_≡_, refl, _∙_, ap, ap₂}
 use mathlib.Core.Bool.{Bool, true, false, not, _||_}
 use mathlib.Core.List.{List, map}
-use lib.Dec.{leb, eqb}
-use lib.ListN.{length}
-use borrow.Author.Tests.{lt-ltb}
+use lib.Dec.{eqb}
 use Rattle.grain.specs.Lists.{_and_, every}
-use Rattle.grain.specs.Prices.{isSettlement}
+use Rattle.grain.specs.Products.{isProduct}
 use Rattle.grain.specs.Amounts.{expandedOf, isFitAmount}
 use Rattle.grain.proofs.Every.{every-mapped}
 use Rattle.record.specs.Choices.{concatMap, isSome}
 use Rattle.record.specs.State.{Product, Group, groupTable}
 use Rattle.record.specs.Sound.{isSoundSheet, isSoundWindow, isSoundProduct, isExpanded, isSoundGroup, isSoundCommon, everyProduct, isSound}
 use Rattle.sheets.specs.Sheets.{sheetIn}
-use Rattle.windows.specs.Windows.{windowOf}
 use Rattle.book.specs.declared.Book.{Book}
 use Rattle.book.specs.Book.{limitIn, standingIn, todayIn, lastIn, levelOf, openedOf, viewProduct, viewGroup, viewGroups, viewCommon, view}
-use Rattle.book.specs.Soundness.{eight, six, isMarkSound}
-use Rattle.book.proofs.Everies.{every-both, every-concat}
+use Rattle.book.specs.Soundness.{eight, six, isMarkSound, areItemsSound, isWindowSound}
+use Rattle.book.proofs.Everies.{and-late, every-both, every-concat}
 
 products-are : (b : Book) → concatMap (λ (g : Group). g .products) (viewGroups b 0 groupTable) ≡ map (viewProduct b) eight
 unfolding groupTable viewGroup
@@ -30,15 +27,34 @@ flat b f =
     ∙ ap (every f) (products-are b)
     ∙ every-mapped (λ p. f (viewProduct b p)) (viewProduct b) f (λ p. refl) eight
 
--- the tests of one product, one after the other
-pub product-tests : (b : Book) (p : ℕ) → p < 8
-    → isSoundProduct (viewProduct b p)
-    ≡ ((isFitAmount p (limitIn b p .initial) and eqb (limitIn b p .expanded) (expandedOf p (limitIn b p .initial)))
-    and (leb (length (windowOf (b .windows) p)) 45 and every (isSettlement p) (windowOf (b .windows) p))
-    and isSoundSheet p (sheetIn (todayIn b p))
-    and isSoundSheet p (sheetIn (lastIn b p)))
-unfolding isSoundProduct isSoundWindow viewProduct _and_
-product-tests b p l = rw (lt-ltb p 8 l)
+-- the tests of one product: its items and its window
+product-tests : (b : Book) (p : ℕ) → isProduct p ≡ true
+    → isSoundProduct (viewProduct b p) ≡ areItemsSound p (limitIn b p) (todayIn b p) (lastIn b p) and isWindowSound (b .windows) p
+unfolding isSoundProduct isSoundWindow viewProduct
+product-tests b p l =
+    ap (λ (e : Bool). e and isFitAmount p (limitIn b p .initial) and eqb (limitIn b p .expanded) (expandedOf p (limitIn b p .initial)) and isWindowSound (b .windows) p and isSoundSheet p (sheetIn (todayIn b p)) and isSoundSheet p (sheetIn (lastIn b p))) l
+    ∙ and-late (isFitAmount p (limitIn b p .initial)) (eqb (limitIn b p .expanded) (expandedOf p (limitIn b p .initial))) (isWindowSound (b .windows) p) (isSoundSheet p (sheetIn (todayIn b p))) (isSoundSheet p (sheetIn (lastIn b p)))
+
+each-product : (b : Book)
+    → every (λ p. isSoundProduct (viewProduct b p)) eight
+    ≡ every (λ p. areItemsSound p (limitIn b p) (todayIn b p) (lastIn b p) and isWindowSound (b .windows) p) eight
+unfolding every
+each-product b =
+    ap₂ _and_ (product-tests b 0 refl)
+    (ap₂ _and_ (product-tests b 1 refl)
+    (ap₂ _and_ (product-tests b 2 refl)
+    (ap₂ _and_ (product-tests b 3 refl)
+    (ap₂ _and_ (product-tests b 4 refl)
+    (ap₂ _and_ (product-tests b 5 refl)
+    (ap₂ _and_ (product-tests b 6 refl) (ap₂ _and_ (product-tests b 7 refl) refl)))))))
+
+-- the tests of the products: of the items of each, then of the window of each
+pub products-tests : (b : Book)
+    → every (λ p. isSoundProduct (viewProduct b p)) eight
+    ≡ every (λ p. areItemsSound p (limitIn b p) (todayIn b p) (lastIn b p)) eight and every (isWindowSound (b .windows)) eight
+products-tests b =
+    each-product b
+    ∙ every-both (λ p. areItemsSound p (limitIn b p) (todayIn b p) (lastIn b p)) (isWindowSound (b .windows)) eight
 
 -- a mark only on an expanded group, of a group as it is shown
 abbrev isMarkShownSound : Group → Bool
@@ -85,3 +101,14 @@ sound-is b =
     (ap₂ _||_
     (ap (isSome (openedOf (b .day)) and_) (flat b (λ q. isSome (q .last))))
     (flat b (λ q. not (isSome (q .last)))))
+
+-- the same, the products' windows apart
+pub sound-tests : (b : Book)
+    → isSound (view b)
+    ≡ (isSoundCommon (record { opened = openedOf (b .day); isOpen = b .trading })
+    and (every (λ g. isMarkSound (standingIn b g)) six
+    and (every (λ p. areItemsSound p (limitIn b p) (todayIn b p) (lastIn b p)) eight and every (isWindowSound (b .windows)) eight))
+    and (b .trading || every (λ p. not (isSome (sheetIn (todayIn b p)))) eight)
+    and ((isSome (openedOf (b .day)) and every (λ p. isSome (sheetIn (lastIn b p))) eight)
+    || every (λ p. not (isSome (sheetIn (lastIn b p)))) eight))
+sound-tests b = sound-is b ∙ rw (products-tests b)

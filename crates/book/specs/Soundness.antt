@@ -1,7 +1,18 @@
--- The numbers that the soundness test runs over, and what it says of one group.
+-- The numbers that the soundness test runs over, and what it says of one product and of one group.
 use Prim.Native.Nat.{ℕ}
 use mathlib.Core.Bool.{Bool, not, _||_}
 use mathlib.Core.List.{List, [], _∷_}
+use lib.Dec.{leb, eqb}
+use lib.ListN.{length}
+use Rattle.grain.specs.Lists.{_and_, every}
+use Rattle.grain.specs.Prices.{isSettlement}
+use Rattle.grain.specs.Amounts.{expandedOf, isFitAmount}
+use Rattle.record.specs.Sound.{isSoundSheet}
+use Rattle.sheets.specs.declared.Sheet.{Sheet}
+use Rattle.sheets.specs.Sheets.{sheetIn}
+use Rattle.windows.specs.declared.Windows.{Windows}
+use Rattle.windows.specs.Windows.{windowOf}
+use Rattle.book.specs.declared.Limit.{Limit}
 use Rattle.book.specs.declared.Standing.{Standing}
 
 -- the products
@@ -15,3 +26,14 @@ six = 0 ∷ 1 ∷ 2 ∷ 3 ∷ 4 ∷ 5 ∷ []
 -- a mark only on an expanded group
 abbrev pub isMarkSound : Standing → Bool
 isMarkSound s = not (s .marked) || s .expanded
+
+-- the limits and the two sheets of product p
+abbrev pub areItemsSound : ℕ → Limit → Sheet → Sheet → Bool
+areItemsSound p limit today last =
+    (isFitAmount p (limit .initial) and eqb (limit .expanded) (expandedOf p (limit .initial)))
+    and isSoundSheet p (sheetIn today)
+    and isSoundSheet p (sheetIn last)
+
+-- the window of product p
+abbrev pub isWindowSound : Windows → ℕ → Bool
+isWindowSound w p = leb (length (windowOf w p)) 45 and every (isSettlement p) (windowOf w p)

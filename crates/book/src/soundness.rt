@@ -1,23 +1,23 @@
 // Whether a book is sound: every field in its range, and the parts in agreement.
 ghost use mathlib.Core.Path.{_≡_};
 ghost use mathlib.Core.Bool.{not, _||_};
-ghost use Prim.Native.Nat.{_<_};
 ghost use lib.Dec.{eqb};
 ghost use lib.ListN.{getD};
 ghost use Rattle.grain.specs.Lists.{_and_, every};
 ghost use Rattle.grain.specs.Amounts.{expandedOf, isFitAmount};
 ghost use Rattle.record.specs.Choices.{isSome};
 ghost use Rattle.record.specs.Opening.{isTrueDay};
-ghost use Rattle.record.specs.Sound.{isSoundProduct, isSoundCommon, isSound};
+ghost use Rattle.record.specs.Sound.{isSoundCommon, isSound};
 ghost use Rattle.sheets.specs.Sheets.{sheetIn};
-ghost use Rattle.book.specs.Book.{noSheet, noStanding, isNoDay, openedOf, viewProduct, view};
-ghost use Rattle.book.specs.Soundness.{eight, six, isMarkSound};
+ghost use Rattle.book.specs.Book.{noSheet, noStanding, limitIn, todayIn, lastIn, isNoDay, openedOf, view};
+ghost use Rattle.book.specs.Soundness.{eight, six, isMarkSound, areItemsSound, isWindowSound};
 use crate::Book;
 use crate::Limit;
 use crate::Standing;
 use grain::Calendar;
 use record::Day;
 use sheets::Sheet;
+use windows::Windows;
 
 pub fn is_no_day(d: Day) -> bool
     ensures { λ r. ⌜ r ≡ isNoDay d ⌝ }
@@ -68,32 +68,46 @@ fn is_sound_limit(product: u32, limit: Limit) -> bool
     limit.expanded == grain::expanded(product, limit.initial)
 }
 
-fn is_sound_product(b: Book, p: usize) -> bool
-    requires { ⌜ p < 8 ⌝ }
-    ensures { λ r. ⌜ r ≡ isSoundProduct (viewProduct b p) ⌝ }
+// The limits and the two sheets of a product.
+fn is_sound_product(product: u32, limit: Limit, today: Sheet, last: Sheet) -> bool
+    ensures { λ r. ⌜ r ≡ areItemsSound product limit today last ⌝ }
 {
-    let product = p as u32;
-    let limit = b.limits[p];
     if !is_sound_limit(product, limit) {
         return false;
     }
-    let w = b.windows;
-    if !windows::is_sound(w, p) {
-        return false;
-    }
-    let today = b.today[p];
     if !sheets::is_sound(product, today) {
         return false;
     }
-    let last = b.last[p];
     sheets::is_sound(product, last)
 }
 
 fn are_products_sound(b: Book) -> bool
-    ensures { λ r. ⌜ r ≡ every (λ p. isSoundProduct (viewProduct b p)) eight ⌝ }
+    ensures { λ r. ⌜ r ≡ every (λ p. areItemsSound p (limitIn b p) (todayIn b p) (lastIn b p)) eight ⌝ }
 {
     for p in 0..8usize {
-        if !is_sound_product(b, p) {
+        let limit = b.limits[p];
+        let today = b.today[p];
+        let last = b.last[p];
+        if !is_sound_product(p as u32, limit, today, last) {
+            return false;
+        }
+    }
+    true
+}
+
+fn are_windows_sound(w: Windows) -> bool
+    ensures { λ r. ⌜ r ≡ every (isWindowSound w) eight ⌝ }
+{
+    let all = w.settlements;
+    for p in 0..8usize {
+        let n = w.sizes[p];
+        if 45 < n {
+            return false;
+        }
+        let tick = grain::tick(p as u32, 0);
+        let at = 45 * p;
+        let past = at + n;
+        if !windows::are_on_tick(tick, &all[at..past]) {
             return false;
         }
     }
@@ -182,6 +196,10 @@ pub fn is_sound(b: Book) -> bool
         return false;
     }
     if !are_products_sound(b) {
+        return false;
+    }
+    let w = b.windows;
+    if !are_windows_sound(w) {
         return false;
     }
     let today = b.today;

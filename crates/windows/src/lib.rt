@@ -1,13 +1,13 @@
 // The windows of the eight products: the last 45 collected settlements of each, in one flat array with eight sizes.
-// These functions are exported for the book alone; those that ask for a product below 8 and a size of at most 45 say so.
+// These functions are exported for the calls on a book; those that ask for a product below 8 and a size of at most 45 say so.
 ghost use mathlib.Core.Path.{_≡_};
 ghost use mathlib.Core.List.{[], _∷_, _++_};
 ghost use mathlib.Core.Option.{some};
 ghost use Prim.Native.Nat.{ℕ, _<_, _≤_};
-ghost use lib.Dec.{leb, eqb};
+ghost use lib.Dec.{eqb};
 ghost use lib.ListN.{length, drop};
-ghost use Rattle.grain.specs.Lists.{_and_, every};
-ghost use Rattle.grain.specs.Prices.{isSettlement};
+ghost use Rattle.grain.specs.Lists.{every};
+ghost use Rattle.grain.specs.Prices.{isOnTick};
 ghost use Rattle.grain.specs.Margin.{seasonLimits};
 ghost use Rattle.record.specs.Window.{collect};
 ghost use Rattle.windows.specs.Windows.{sizeOf, windowOf, Changed};
@@ -76,20 +76,13 @@ pub fn collected(w: Windows, p: usize, settlement: u32) -> Windows
     extended(without_oldest(w, p), p, settlement)
 }
 
-// Whether the window has at most 45 settlements, each in range and on the tick of its product.
-pub fn is_sound(w: Windows, p: usize) -> bool
-    requires { ⌜ p < 8 ⌝ }
-    ensures { λ r. ⌜ r ≡ (leb (length (windowOf w p)) 45 and every (isSettlement p) (windowOf w p)) ⌝ }
+// Whether each settlement is in range and on the tick.
+pub fn are_on_tick(tick: u32, settlements: &[u32]) -> bool
+    ensures { λ r. ⌜ r ≡ every (isOnTick tick) (now (settlements .entry)) ⌝ }
 {
-    let n = w.sizes[p];
-    if 45 < n {
-        return false;
-    }
-    let at = 45 * p;
-    let tick = grain::tick(p as u32, 0);
     let mut i = 0;
-    while i < n {
-        if !grain::is_on_tick(tick, w.settlements[at + i]) {
+    while i < settlements.len() {
+        if !grain::is_on_tick(tick, settlements[i]) {
             return false;
         }
         i += 1;
