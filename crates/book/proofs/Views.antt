@@ -37,10 +37,6 @@ pub product-is : (b : Book) (p : ℕ) → p < 8 → productIn (groupAt (view b) 
 unfolding view groupTable viewGroup viewProduct
 product-is b = each _ refl refl refl refl refl refl refl refl
 
-pub common-is : (b : Book) → view b .common ≡ viewCommon b
-unfolding view
-common-is b = refl
-
 pub trading-is : (b : Book) → view b .common .isOpen ≡ b .trading
 unfolding view viewCommon
 trading-is b = refl

@@ -43,7 +43,7 @@ levelOf false = initial
 abbrev pub isNoDay : Day → Bool
 isNoDay d = eqb (d .year) 0 && eqb (d .month) 0 && eqb (d .day) 0 && eqb (d .left) 0
 
--- no date is four zeros; a day that has one of them only is damage, and is shown
+-- no date is four zeros; a day of which only some are 0 is damage, and is shown
 abbrev pub openedOf : Day → Option Day
 openedOf d = cond (isNoDay d) none (some d)
 

@@ -22,6 +22,7 @@ filedAs r = answerAs (r .refusal) filed
 abbrev pub Files : Book → ℕ → List ℕ → List ℕ → Filed → Type 0
 Files b p ms ss r = Steps b (sheet p ms ss) (filedAs r) (r .book)
 
+-- For the functions inside: the Record's tests in two parts, which proofs/Filings.antt holds against them.
 -- the refusals before the contracts are looked at: 1, 2, 5, 11, 6
 abbrev pub earlyTests : Record → ℕ → List ℕ → List ℕ → List Test
 earlyTests r p ms ss =

@@ -1,4 +1,5 @@
 -- The search for the leading contract: the next month, and whether a product's contract of a month meets the condition.
+-- For the functions inside: what the search promises is in Lead.antt alone.
 use Prim.Native.Nat.{ℕ, _+_, _<_, _≤_}
 use mathlib.Core.Bool.{Bool, false, _&&_, _||_, cond}
 use mathlib.Core.List.{List, [], _∷_}
