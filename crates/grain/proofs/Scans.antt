@@ -1,7 +1,7 @@
 -- One more element of a list that is read from the front, and none left.
 use Prim.Native.Nat.{ℕ, _+_, _<_, _≤_}
-use mathlib.Core.Path.{_≡_, _∙_, ap}
-use mathlib.Core.Bool.{Bool, true, false}
+use mathlib.Core.Path.{_≡_, refl, _∙_, ap}
+use mathlib.Core.Bool.{Bool, true, false, _&&_}
 use mathlib.Core.List.{List, _∷_}
 use native.Mathlib.Numerals.{add-one}
 use lib.ListN.{length, getD, drop, drop-of-length-le}
@@ -32,6 +32,23 @@ module _ (f : ℕ → Bool) (xs : List ℕ) (i : ℕ) (l : i < length xs) where
   unfolding _and_
   every-goes-on e = every-next ∙ rw e
 
+  -- b tells of those before i, as a loop that goes through to the end has it
+  pub every-so-far : (b : Bool) → b and every f (drop i xs) ≡ (b && f (getD xs i 0)) and every f (drop (i + 1) xs)
+  unfolding _and_
+  every-so-far b = ap (λ r. b and r) every-next ∙ regroup b
+    where
+      regroup : (b : Bool) → b and (f (getD xs i 0) and every f (drop (i + 1) xs)) ≡ (b && f (getD xs i 0)) and every f (drop (i + 1) xs)
+      regroup true = refl
+      regroup false = refl
+
 pub every-end : (f : ℕ → Bool) (xs : List ℕ) (i : ℕ) → length xs ≤ i → every f (drop i xs) ≡ true
 unfolding every
 every-end f xs i l = ap (every f) (drop-of-length-le xs l)
+
+pub every-by-end : (f : ℕ → Bool) (xs : List ℕ) (i : ℕ) → length xs ≤ i → (b : Bool) → b and every f (drop i xs) ≡ b
+unfolding _and_
+every-by-end f xs i l b = ap (λ r. b and r) (every-end f xs i l) ∙ with-true b
+  where
+    with-true : (b : Bool) → b and true ≡ b
+    with-true true = refl
+    with-true false = refl

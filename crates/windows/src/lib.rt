@@ -80,14 +80,13 @@ pub fn collected(w: Windows, p: usize, settlement: u32) -> Windows
 pub fn are_on_tick(tick: u32, settlements: &[u32]) -> bool
     ensures { λ r. ⌜ r ≡ every (isOnTick tick) (now (settlements .entry)) ⌝ }
 {
+    let mut all = true;
     let mut i = 0;
     while i < settlements.len() {
-        if !grain::is_on_tick(tick, settlements[i]) {
-            return false;
-        }
+        all = all & grain::is_on_tick(tick, settlements[i]);
         i += 1;
     }
-    true
+    all
 }
 
 // Whether the window has all its 45 settlements.

@@ -1,24 +1,28 @@
 use borrow.Author.Needs.{needs}
+use native.Mathlib.Omega.{arith}
 use Prim.Native.Nat.{_-_, _≤_}
-use mathlib.Core.Path.{_≡_, sym, _∙_}
-use borrow.Author.Tests.{not-true, not-false}
+use mathlib.Core.Path.{_≡_, refl, sym, _∙_}
 use lib.ListN.{length, drop}
-use Rattle.grain.proofs.Scans.{every-fails, every-goes-on, every-end}
-use Rattle.grain.specs.Lists.{every}
+use Rattle.grain.proofs.Scans.{every-so-far, every-by-end}
+use Rattle.grain.specs.Lists.{_and_, every}
 use Rattle.grain.specs.Prices.{isOnTick}
 use Rattle.windows.proofs.are_on_tick.Statement.{statement}
 use Rattle.windows.proofs.are_on_tick.Tie as tie
+use Rattle.windows.proofs.are_on_tick.Reads as reads
+use Rattle.windows.proofs.are_on_tick.Lts as lts
+use Rattle.grain.proofs.is_on_tick.Reads as is-on-tick-reads
 
 abbrev Inv-loop : tie.InvT-loop
-Inv-loop tick settlements i₀ i =
+Inv-loop tick settlements all₀ i₀ all i =
     (i ≤ length settlements)
-    × (every (isOnTick tick) settlements ≡ every (isOnTick tick) (drop i settlements))
+    × (every (isOnTick tick) settlements ≡ all and every (isOnTick tick) (drop i settlements))
 
 abbrev μ-loop : tie.MeasureT-loop
-μ-loop tick settlements i₀ i = length settlements - i
+μ-loop tick settlements all₀ i₀ all i = length settlements - i
 
 loop-holds : tie.Need-loop-holds Inv-loop μ-loop
-loop-holds c = search needs
+unfolding _and_
+loop-holds c = (search needs, refl)
 
 mul-is-on-tick : tie.Need-mul-is-on-tick Inv-loop μ-loop
 mul-is-on-tick c = search needs
@@ -29,12 +33,6 @@ shared-slice-read-is-on-tick c = search needs
 is-on-tick-requires : tie.Need-is-on-tick-requires Inv-loop μ-loop
 is-on-tick-requires c κs = search needs
 
-returns : tie.Need-returns Inv-loop μ-loop
-returns c =
-    let k = c .before .before .before .before in
-    let ss = k .before .before .args .settlements .now in
-    sym (k .loop .inv .1 ∙ every-fails _ ss (k .loop .i) (search needs) (sym (c .before .is-on-tick .ensures) ∙ not-true _ (c .if1 .taken)))
-
 add-i : tie.Need-add-i Inv-loop μ-loop
 add-i c = search needs
 
@@ -43,16 +41,14 @@ loop-less c = search needs
 
 loop-again : tie.Need-loop-again Inv-loop μ-loop
 loop-again c =
-    let k = c .before .before .before .before in
-    let ss = k .before .before .args .settlements .now in (
-      search needs,
-      k .loop .inv .1 ∙ every-goes-on _ ss (k .loop .i) (search needs) (sym (c .before .is-on-tick .ensures) ∙ not-false _ (c .if1 .left)),
-    )
+    let k = c .before .before .before in
+    let ss = k .before .before .args .settlements .now in
+    (search needs, k .loop .inv .1 ∙ rw (c .is-on-tick .ensures) (every-so-far _ ss (k .loop .i) (search needs) (k .loop .all)))
 
-returns-2 : tie.Need-returns-2 Inv-loop μ-loop
-returns-2 c =
+returns : tie.Need-returns Inv-loop μ-loop
+returns c =
     let ss = c .before .before .before .args .settlements .now in
-    sym (c .before .loop .inv .1 ∙ every-end _ ss (c .before .loop .i) (search needs))
+    sym (c .before .loop .inv .1 ∙ every-by-end _ ss (c .before .loop .i) (search needs) (c .before .loop .all))
 
 pub are-on-tick-spec : {M : Type 1} → statement M
 are-on-tick-spec =
@@ -64,8 +60,7 @@ are-on-tick-spec =
     mul-is-on-tick
     shared-slice-read-is-on-tick
     is-on-tick-requires
-    returns
     add-i
     loop-less
     loop-again
-    returns-2)
+    returns)
