@@ -21,8 +21,10 @@ pub fn limit_of(b: Book, p: usize) -> u32
     requires { ⌜ p < 8 ⌝ }
     ensures { λ r. ⌜ r ≡ limitIn (groupAt (view b) (groupOf p)) p ⌝ }
 {
-    let limit = b.limits[p];
-    let standing = b.standings[group_of(p)];
+    let limits = b.limits;
+    let standings = b.standings;
+    let limit = limits[p];
+    let standing = standings[group_of(p)];
     if standing.expanded {
         return limit.expanded;
     }

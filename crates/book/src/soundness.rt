@@ -84,10 +84,13 @@ fn is_sound_product(product: u32, limit: Limit, today: Sheet, last: Sheet) -> bo
 fn are_products_sound(b: Book) -> bool
     ensures { λ r. ⌜ r ≡ every (λ p. areItemsSound p (limitIn b p) (todayIn b p) (lastIn b p)) eight ⌝ }
 {
+    let limits = b.limits;
+    let todays = b.today;
+    let lasts = b.last;
     for p in 0..8usize {
-        let limit = b.limits[p];
-        let today = b.today[p];
-        let last = b.last[p];
+        let limit = limits[p];
+        let today = todays[p];
+        let last = lasts[p];
         if !is_sound_product(p as u32, limit, today, last) {
             return false;
         }

@@ -32,7 +32,8 @@ fn listed(b: Book, p: usize, month: u32) -> Listed
     if month < book::contract_month(day) {
         return Listed::Nothing;
     }
-    let last = b.last[p];
+    let lasts = b.last;
+    let last = lasts[p];
     sheets::find(last, month)
 }
 

@@ -36,7 +36,8 @@ pub fn early_refusal(b: Book, product: u32, months: &[u32], settlements: &[u32])
     if !grain::is_product(product) {
         return NO_SUCH_PRODUCT;
     }
-    let today = b.today[product as usize];
+    let todays = b.today;
+    let today = todays[product as usize];
     if today.len != 0 {
         return ALREADY_IN;
     }
@@ -74,7 +75,8 @@ pub fn contract_refusal(b: Book, p: usize, s: Sheet) -> u32
     if !sheets::are_settlements(product, s) {
         return BAD_PRICE;
     }
-    let last = b.last[p];
+    let lasts = b.last;
+    let last = lasts[p];
     if sheets::lacks_contract(today, day.left, last, s) {
         return CONTRACT_ABSENT;
     }

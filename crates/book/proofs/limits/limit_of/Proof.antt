@@ -8,36 +8,36 @@ use Rattle.book.proofs.limits.limit_of.Tie as tie
 mul-limit : tie.Need-mul-limit
 mul-limit c = search needs
 
-element-copy-out-limit : tie.Need-element-copy-out-limit
-element-copy-out-limit c = search needs
+array-copy-out-limit : tie.Need-array-copy-out-limit
+array-copy-out-limit c = search needs
 
 group-of-requires : tie.Need-group-of-requires
 group-of-requires c κs = search needs
 
 mul-standing : tie.Need-mul-standing
 mul-standing c =
-    let small = rw (← (c .group-of .ensures)) at (group-small (c .before .before .args .p) (search needs)) in omega arith
+    let small = rw (← (c .group-of .ensures)) at (group-small (c .before .before .before .before .args .p) (search needs)) in omega arith
 
-element-copy-out-standing : tie.Need-element-copy-out-standing
-element-copy-out-standing c =
-    let small = rw (← (c .group-of .ensures)) at (group-small (c .before .before .args .p) (search needs)) in omega arith
+array-copy-out-standing : tie.Need-array-copy-out-standing
+array-copy-out-standing c =
+    let small = rw (← (c .group-of .ensures)) at (group-small (c .before .before .before .before .args .p) (search needs)) in omega arith
 
 returns : tie.Need-returns
 returns c =
-    sym (limit-is (c .before .before .before .before .args .t1) (c .before .before .before .before .args .p) (search needs) ∙ rw (← (c .before .before .group-of .ensures), c .if1 .taken))
+    sym (limit-is (c .before .before .before .before .before .before .args .b) (c .before .before .before .before .before .before .args .p) (search needs) ∙ rw (← (c .before .before .group-of .ensures), c .if1 .taken))
 
 returns-2 : tie.Need-returns-2
 returns-2 c =
-    sym (limit-is (c .before .before .before .before .args .t1) (c .before .before .before .before .args .p) (search needs) ∙ rw (← (c .before .before .group-of .ensures), c .if1 .left))
+    sym (limit-is (c .before .before .before .before .before .before .args .b) (c .before .before .before .before .before .before .args .p) (search needs) ∙ rw (← (c .before .before .group-of .ensures), c .if1 .left))
 
 pub limit-of-spec : {M : Type 1} → statement M
 limit-of-spec =
     tie.close
     (tie.spec
     mul-limit
-    element-copy-out-limit
+    array-copy-out-limit
     group-of-requires
     mul-standing
-    element-copy-out-standing
+    array-copy-out-standing
     returns
     returns-2)

@@ -18,20 +18,20 @@ cast-product c = search needs
 
 contract-month-requires : tie.Need-contract-month-requires
 contract-month-requires c κs =
-    let s = c .before in open-true (s .args .t1) (s .pre .2) (s .pre .3)
+    let s = c .before in open-true (s .args .b) (s .pre .2) (s .pre .3)
 
 has-bad-month-requires : tie.Need-has-bad-month-requires
 has-bad-month-requires c κs = search needs
 
 -- what the test of the months says, by the open day's month
 months : (c : tie.After-has-bad-month)
-    → wrongMonth (c .before .before .before .args .t1) (c .before .before .before .args .p) (contractsOf (c .before .before .before .args .s)) ≡ c .has-bad-month .result
+    → wrongMonth (c .before .before .before .args .b) (c .before .before .before .args .p) (contractsOf (c .before .before .before .args .s)) ≡ c .has-bad-month .result
 months c = sym (c .has-bad-month .ensures ∙ rw (c .before .contract-month .ensures))
 
 returns : tie.Need-returns
 returns c =
     let s = c .before .before .before .before in
-    refused-7 (s .args .t1) (s .args .p) (contractsOf (s .args .s)) (s .pre .0) (months (c .before) ∙ c .if1 .taken)
+    refused-7 (s .args .b) (s .args .p) (contractsOf (s .args .s)) (s .pre .0) (months (c .before) ∙ c .if1 .taken)
 
 are-settlements-requires : tie.Need-are-settlements-requires
 are-settlements-requires c κs = search needs
@@ -44,63 +44,63 @@ settled c = sym (c .before .are-settlements .ensures) ∙ not-false _ (c .if2 .l
 returns-2 : tie.Need-returns-2
 returns-2 c =
     let s = c .before .before .before .before .before .before in
-    refused-8 (s .args .t1) (s .args .p) (contractsOf (s .args .s)) (s .pre .0) (months (c .before .before .before) ∙ c .before .before .if1 .left)
+    refused-8 (s .args .b) (s .args .p) (contractsOf (s .args .s)) (s .pre .0) (months (c .before .before .before) ∙ c .before .before .if1 .left)
     (sym (c .before .are-settlements .ensures) ∙ not-true _ (c .if2 .taken))
 
 mul-last : tie.Need-mul-last
 mul-last c = search needs
 
-element-copy-out-last : tie.Need-element-copy-out-last
-element-copy-out-last c = search needs
+array-copy-out-last : tie.Need-array-copy-out-last
+array-copy-out-last c = search needs
 
 lacks-contract-requires : tie.Need-lacks-contract-requires
 lacks-contract-requires c κs =
-    let s = c .before .before .before .before .before .before .before in
-    (last-fits (s .args .t1) (s .pre .2) (s .args .p) (s .pre .0), s .pre .1)
+    let s = c .before .before .before .before .before .before .before .before in
+    (last-fits (s .args .b) (s .pre .2) (s .args .p) (s .pre .0), s .pre .1)
 
 -- what the test of the last ended sheet says
 absent : (c : tie.After-lacks-contract)
-    → lacksContract (isSpotFor (c .before .before .before .before .before .before .before .before .args .t1)) (contractsOf (lastIn (c .before .before .before .before .before .before .before .before .args .t1) (c .before .before .before .before .before .before .before .before .args .p))) (contractsOf (c .before .before .before .before .before .before .before .before .args .s))
+    → lacksContract (isSpotFor (c .before .before .before .before .before .before .before .before .before .args .b)) (contractsOf (lastIn (c .before .before .before .before .before .before .before .before .before .args .b) (c .before .before .before .before .before .before .before .before .before .args .p))) (contractsOf (c .before .before .before .before .before .before .before .before .before .args .s))
     ≡ c .lacks-contract .result
-absent c = sym (c .lacks-contract .ensures ∙ rw (c .before .before .before .before .before .before .contract-month .ensures))
+absent c = sym (c .lacks-contract .ensures ∙ rw (c .before .before .before .before .before .before .before .contract-month .ensures))
 
 returns-3 : tie.Need-returns-3
 returns-3 c =
-    let k = c .before .before .before in
+    let k = c .before .before .before .before in
     let s = k .before .before .before .before .before .before in
-    refused-9 (s .args .t1) (s .args .p) (contractsOf (s .args .s)) (s .pre .0) (months (k .before .before .before) ∙ k .before .before .if1 .left)
+    refused-9 (s .args .b) (s .args .p) (contractsOf (s .args .s)) (s .pre .0) (months (k .before .before .before) ∙ k .before .before .if1 .left)
     (settled k) (absent (c .before) ∙ c .if3 .taken)
 
 limit-of-requires : tie.Need-limit-of-requires
 limit-of-requires c κs =
-    c .before .before .before .before .before .before .before .before .before .pre .0
+    c .before .before .before .before .before .before .before .before .before .before .pre .0
 
 is-beyond-requires : tie.Need-is-beyond-requires
 is-beyond-requires c κs =
-    let s = c .before .before .before .before .before .before .before .before .before .before in
-    (last-fits (s .args .t1) (s .pre .2) (s .args .p) (s .pre .0), s .pre .1)
+    let s = c .before .before .before .before .before .before .before .before .before .before .before in
+    (last-fits (s .args .b) (s .pre .2) (s .args .p) (s .pre .0), s .pre .1)
 
 -- what the test of the changes says
 beyond : (c : tie.After-is-beyond)
-    → isBeyond (isSpotFor (c .before .before .before .before .before .before .before .before .before .before .before .args .t1)) (limitIn (groupAt (view (c .before .before .before .before .before .before .before .before .before .before .before .args .t1)) (groupOf (c .before .before .before .before .before .before .before .before .before .before .before .args .p))) (c .before .before .before .before .before .before .before .before .before .before .before .args .p)) (contractsOf (lastIn (c .before .before .before .before .before .before .before .before .before .before .before .args .t1) (c .before .before .before .before .before .before .before .before .before .before .before .args .p))) (contractsOf (c .before .before .before .before .before .before .before .before .before .before .before .args .s))
+    → isBeyond (isSpotFor (c .before .before .before .before .before .before .before .before .before .before .before .before .args .b)) (limitIn (groupAt (view (c .before .before .before .before .before .before .before .before .before .before .before .before .args .b)) (groupOf (c .before .before .before .before .before .before .before .before .before .before .before .before .args .p))) (c .before .before .before .before .before .before .before .before .before .before .before .before .args .p)) (contractsOf (lastIn (c .before .before .before .before .before .before .before .before .before .before .before .before .args .b) (c .before .before .before .before .before .before .before .before .before .before .before .before .args .p))) (contractsOf (c .before .before .before .before .before .before .before .before .before .before .before .before .args .s))
     ≡ c .is-beyond .result
 beyond c =
-    sym (c .is-beyond .ensures ∙ rw (c .before .limit-of .ensures, c .before .before .before .before .before .before .before .before .before .contract-month .ensures))
+    sym (c .is-beyond .ensures ∙ rw (c .before .limit-of .ensures, c .before .before .before .before .before .before .before .before .before .before .contract-month .ensures))
 
 returns-4 : tie.Need-returns-4
 returns-4 c =
     let k = c .before .before .before .before .before in
-    let n = k .before in
+    let n = k .before .before in
     let s = n .before .before .before .before .before .before in
-    refused-10 (s .args .t1) (s .args .p) (contractsOf (s .args .s)) (s .pre .0) (months (n .before .before .before) ∙ n .before .before .if1 .left)
+    refused-10 (s .args .b) (s .args .p) (contractsOf (s .args .s)) (s .pre .0) (months (n .before .before .before) ∙ n .before .before .if1 .left)
     (settled n) (absent (c .before .before .before .before) ∙ c .before .before .before .if3 .left) (beyond (c .before) ∙ c .if4 .taken)
 
 returns-5 : tie.Need-returns-5
 returns-5 c =
     let k = c .before .before .before .before .before in
-    let n = k .before in
+    let n = k .before .before in
     let s = n .before .before .before .before .before .before in
-    none-late (s .args .t1) (s .args .p) (contractsOf (s .args .s)) (s .pre .0) (months (n .before .before .before) ∙ n .before .before .if1 .left)
+    none-late (s .args .b) (s .args .p) (contractsOf (s .args .s)) (s .pre .0) (months (n .before .before .before) ∙ n .before .before .if1 .left)
     (settled n) (absent (c .before .before .before .before) ∙ c .before .before .before .if3 .left) (beyond (c .before) ∙ c .if4 .left)
 
 pub contract-refusal-spec : {M : Type 1} → statement M
@@ -114,7 +114,7 @@ contract-refusal-spec =
     are-settlements-requires
     returns-2
     mul-last
-    element-copy-out-last
+    array-copy-out-last
     lacks-contract-requires
     returns-3
     limit-of-requires
