@@ -89,9 +89,10 @@ pub fn windows_after(b: Book, today: u32) -> Windows
     ensures { λ r. ⌜ ((p : ℕ) → p < 8 → windowOf r p ≡ windowAfter (b .day) p (windowOf (b .windows) p) (sheetOr (sheetIn (todayIn b p)))) ⌝ }
 {
     let day = b.day;
+    let sheets = b.today;
     let mut w = b.windows;
     for p in 0..8usize {
-        let s = b.today[p];
+        let s = sheets[p];
         w = window_after(w, p, collected_month(day, today, p), s);
     }
     w

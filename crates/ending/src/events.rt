@@ -67,7 +67,8 @@ fn event_of(b: Book, today: u32, left: u32, g: usize) -> Event
     requires { ⌜ (g < 6) × Readable b ⌝ }
     ensures { λ r. ⌜ r ≡ eventIn b today left g ⌝ }
 {
-    let standing = b.standings[g];
+    let standings = b.standings;
+    let standing = standings[g];
     if standing.expanded {
         return expanded_event(b, today, left, standing.marked, g);
     }

@@ -55,6 +55,17 @@ fn is_at_expanded(b: Book, today: u32, left: u32, g: usize) -> bool
     true
 }
 
+// A move of exactly E is looked for only in a held group: no other event can set the mark.
+fn standing_in(b: Book, today: u32, left: u32, event: Event, g: usize) -> Standing
+    requires { ⌜ (g < 6) × Readable b ⌝ }
+    ensures { λ r. ⌜ r ≡ standingAfter event (any isAtExpanded (movesOf b today left (productsOf g))) ⌝ }
+{
+    let Event::Held(_) = event else {
+        return standing_after(event, false);
+    };
+    standing_after(event, is_at_expanded(b, today, left, g))
+}
+
 pub fn standings_after(b: Book, today: u32, left: u32, events: [GroupEvent; 6]) -> [Standing; 6]
     requires { ⌜ Readable b ⌝ }
     ensures { λ r. ⌜ ((g : ℕ) → g < 6 → getD r g noStanding ≡ standingAfter (getD events g quiet .event) (any isAtExpanded (movesOf b today left (productsOf g)))) ⌝ }
@@ -63,7 +74,7 @@ pub fn standings_after(b: Book, today: u32, left: u32, events: [GroupEvent; 6]) 
     for g in 0..6usize {
         let one = events[g];
         let event = one.event;
-        standings[g] = standing_after(event, is_at_expanded(b, today, left, g));
+        standings[g] = standing_in(b, today, left, event, g);
     }
     standings
 }

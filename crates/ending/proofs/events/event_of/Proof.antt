@@ -5,8 +5,8 @@ use Rattle.ending.proofs.events.event_of.Tie as tie
 mul-standing : tie.Need-mul-standing
 mul-standing c = search needs
 
-element-copy-out-standing : tie.Need-element-copy-out-standing
-element-copy-out-standing c = search needs
+array-copy-out-standing : tie.Need-array-copy-out-standing
+array-copy-out-standing c = search needs
 
 expanded-event-requires : tie.Need-expanded-event-requires
 expanded-event-requires c κs = search needs
@@ -25,7 +25,7 @@ event-of-spec =
     tie.close
     (tie.spec
     mul-standing
-    element-copy-out-standing
+    array-copy-out-standing
     expanded-event-requires
     returns
     initial-event-requires

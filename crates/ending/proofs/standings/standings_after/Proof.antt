@@ -30,11 +30,8 @@ mul-one c = search needs
 array-copy-out-one : tie.Need-array-copy-out-one Inv-loop μ-loop
 array-copy-out-one c = search needs
 
-is-at-expanded-requires : tie.Need-is-at-expanded-requires Inv-loop μ-loop
-is-at-expanded-requires c κs = search needs
-
-standing-after-requires : tie.Need-standing-after-requires Inv-loop μ-loop
-standing-after-requires c κs = search needs
+standing-in-requires : tie.Need-standing-in-requires Inv-loop μ-loop
+standing-in-requires c κs = search needs
 
 mul-standings : tie.Need-mul-standings Inv-loop μ-loop
 mul-standings c = search needs
@@ -50,8 +47,8 @@ loop-less c = search needs
 
 loop-again : tie.Need-loop-again Inv-loop μ-loop
 loop-again c =
-    let k = c .before .before .before .before in
-    (omega arith, filled-next 6 noStanding _ _ (k .loop .g) _ (k .loop .inv .1) (omega arith) (c .standing-after .result) (rw (c .standing-after .ensures, c .before .is-at-expanded .ensures)))
+    let k = c .before .before .before in
+    (omega arith, filled-next 6 noStanding _ _ (k .loop .g) _ (k .loop .inv .1) (omega arith) (c .standing-in .result) (c .standing-in .ensures))
 
 returns : tie.Need-returns Inv-loop μ-loop
 returns c =
@@ -66,8 +63,7 @@ standings-after-spec =
     loop-holds
     mul-one
     array-copy-out-one
-    is-at-expanded-requires
-    standing-after-requires
+    standing-in-requires
     mul-standings
     array-set-from-standings
     add-g
