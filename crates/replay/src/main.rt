@@ -31,7 +31,8 @@ fn start() -> Reading {
     }
 }
 
-// Reads on through a block, and answers each line that ends in it.
+// Reads on through a block, and answers each line that ends in it. What is handed on is a copy of the word: the word itself can then
+// stay in registers from byte to byte.
 fn read_block(
     r: Reading,
     block: &[u8],
@@ -47,7 +48,8 @@ fn read_block(
     while i < block.len() {
         let b = block[i];
         if b == b'\n' {
-            match asked::ended(line, word, numbers, months, settlements) {
+            let last = word;
+            match asked::ended(line, last, numbers, months, settlements) {
                 Asked::Change(change) => {
                     state = changes::changed(change, state, numbers, months, settlements, out);
                 }
@@ -59,7 +61,8 @@ fn read_block(
             line = Line::Blank;
             word = Word::Empty;
         } else if b == b' ' {
-            line = line::with_word(line, word, numbers, months, settlements);
+            let whole = word;
+            line = line::with_word(line, whole, numbers, months, settlements);
             word = Word::Empty;
         } else {
             word = words::longer(word, b);
