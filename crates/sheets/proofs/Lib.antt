@@ -2,3 +2,4 @@ pub mod Left
 pub mod Fills
 pub mod Lookups
 pub mod Soundness
+pub mod InOneLoop
