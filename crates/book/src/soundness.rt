@@ -102,8 +102,9 @@ fn are_windows_sound(w: Windows) -> bool
     ensures { λ r. ⌜ r ≡ every (isWindowSound w) eight ⌝ }
 {
     let all = w.settlements;
+    let sizes = w.sizes;
     for p in 0..8usize {
-        let n = w.sizes[p];
+        let n = sizes[p];
         if 45 < n {
             return false;
         }

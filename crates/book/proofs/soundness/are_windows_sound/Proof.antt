@@ -7,6 +7,7 @@ use borrow.Author.Tests.{not-true, not-false}
 use lib.ListN.{length, drop}
 use Rattle.grain.specs.Lists.{_and_, every}
 use Rattle.grain.specs.Prices.{isSettlement}
+use Rattle.windows.specs.declared.Windows.{Windows}
 use Rattle.windows.specs.Windows.{sizeOf}
 use Rattle.windows.proofs.Shown.{too-long}
 use Rattle.windows.proofs.Entries.{entries-are}
@@ -16,11 +17,12 @@ use Rattle.book.proofs.soundness.are_windows_sound.Statement.{statement
 use Rattle.book.proofs.soundness.are_windows_sound.Tie as tie
 
 abbrev Inv-loop : tie.InvT-loop
-Inv-loop w all p₀ p =
+Inv-loop all sizes p₀ p =
+    let w : Windows = record { settlements = all; sizes = sizes } in
     (p ≤ 8) × (every (isWindowSound w) eight ≡ every (isWindowSound w) (drop p eight))
 
 abbrev μ-loop : tie.MeasureT-loop
-μ-loop w all p₀ p = 8 - p
+μ-loop all sizes p₀ p = 8 - p
 
 loop-holds : tie.Need-loop-holds Inv-loop μ-loop
 loop-holds c = search needs
@@ -28,14 +30,14 @@ loop-holds c = search needs
 mul-n : tie.Need-mul-n Inv-loop μ-loop
 mul-n c = search needs
 
-element-copy-out-n : tie.Need-element-copy-out-n Inv-loop μ-loop
-element-copy-out-n c = search needs
+array-read-n : tie.Need-array-read-n Inv-loop μ-loop
+array-read-n c = search needs
 
 returns : tie.Need-returns Inv-loop μ-loop
 unfolding _and_
 returns c =
-    let k = c .before .before .before in
-    let w = k .before .before .args .t1 in
+    let k = c .before .before in
+    let w = k .before .before .before .args .w in
     let no : isWindowSound w (k .loop .p) ≡ false = rw (too-long w (k .loop .p) (search needs)) in
     sym (one-fails (isWindowSound w) 8 eight eight-counts (k .loop .p) (search needs) no (k .loop .inv .1))
 
@@ -62,7 +64,7 @@ part-are-on-tick-start c = search needs
 
 part-are-on-tick-end : tie.Need-part-are-on-tick-end Inv-loop μ-loop
 part-are-on-tick-end c =
-    let long : length (c .before .before .before .before .before .before .before .args .t1 .settlements) ≡ 360 = search needs in
+    let long : length (c .before .before .before .before .before .before .before .args .w .settlements) ≡ 360 = search needs in
     omega arith
 
 are-on-tick-requires : tie.Need-are-on-tick-requires Inv-loop μ-loop
@@ -70,20 +72,20 @@ are-on-tick-requires c κs = search needs
 
 -- the test of the part is the test of the window
 tested : (c : tie.After-are-on-tick Inv-loop μ-loop)
-    → let k = c .before .before .before .before .before .before .before in
-    isWindowSound (k .before .before .args .t1) (k .loop .p) ≡ c .are-on-tick .result
+    → let k = c .before .before .before .before .before .before in
+    isWindowSound (k .before .before .before .args .w) (k .loop .p) ≡ c .are-on-tick .result
 tested c =
     let t = c .before .before .before in
-    let k = t .before .before .before .before in
-    let w = k .before .before .args .t1 in
+    let k = t .before .before .before in
+    let w = k .before .before .before .args .w in
     let count : _≡_ {A = ℕ} (45 * k .loop .p + sizeOf w (k .loop .p) - 45 * k .loop .p) (sizeOf w (k .loop .p)) = omega arith in
     let part = rw (t .tick .ensures, count) at (c .are-on-tick .ensures) in
     entries-are w (k .loop .p) (search needs) (search needs) (search needs) (isSettlement (k .loop .p)) ∙ sym part
 
 returns-2 : tie.Need-returns-2 Inv-loop μ-loop
 returns-2 c =
-    let k = c .before .before .before .before .before .before .before .before in
-    let w = k .before .before .args .t1 in
+    let k = c .before .before .before .before .before .before .before in
+    let w = k .before .before .before .args .w in
     let no : isWindowSound w (k .loop .p) ≡ false = tested (c .before) ∙ not-true _ (c .if2 .taken) in
     sym (one-fails (isWindowSound w) 8 eight eight-counts (k .loop .p) (search needs) no (k .loop .inv .1))
 
@@ -95,15 +97,15 @@ loop-less c = search needs
 
 loop-again : tie.Need-loop-again Inv-loop μ-loop
 loop-again c =
-    let k = c .before .before .before .before .before .before .before .before in
-    let w = k .before .before .args .t1 in
+    let k = c .before .before .before .before .before .before .before in
+    let w = k .before .before .before .args .w in
     let yes : isWindowSound w (k .loop .p) ≡ true = tested (c .before) ∙ not-false _ (c .if2 .left) in
     (search needs, one-goes-on (isWindowSound w) 8 eight eight-counts (k .loop .p) (search needs) yes (k .loop .inv .1))
 
 returns-3 : tie.Need-returns-3 Inv-loop μ-loop
 returns-3 c =
     let k = c .before in
-    sym (none-left (isWindowSound (k .before .before .args .t1)) 8 eight eight-counts (k .loop .p) (search needs) (k .loop .inv .1))
+    sym (none-left (isWindowSound (k .before .before .before .args .w)) 8 eight eight-counts (k .loop .p) (search needs) (k .loop .inv .1))
 
 pub are-windows-sound-spec : {M : Type 1} → statement M
 are-windows-sound-spec =
@@ -113,7 +115,7 @@ are-windows-sound-spec =
     μ-loop
     loop-holds
     mul-n
-    element-copy-out-n
+    array-read-n
     returns
     cast-tick
     tick-requires
