@@ -1,6 +1,6 @@
 -- The nearest month after a month: it is after it, and no listed month after it is nearer.
-use Prim.Native.Nat.{ℕ, zero, suc, _+_, _≤_, _<_}
-use mathlib.Core.Path.{_≡_, refl}
+use Prim.Native.Nat.{ℕ, zero, suc, _+_, _-_, _≤_, _<_}
+use mathlib.Core.Path.{_≡_, refl, sym, _∙_, ap}
 use mathlib.Core.Bool.{Bool, true, false, false≢true}
 use mathlib.Core.List.{List, [], _∷_}
 use mathlib.Core.Logic.{_⊎_, inl, inr, ⊎-elim}
@@ -16,7 +16,8 @@ use Rattle.sheets.specs.declared.Sheet.{Sheet}
 use Rattle.sheets.specs.Sheets.{contractsOf}
 use Rattle.book.specs.Book.{noSheet}
 use Rattle.lead.specs.Lead.{productsFrom}
-use Rattle.lead.specs.Search.{sooner, nextIn, nextOf}
+use Rattle.lead.specs.Search.{sooner, nextIn}
+use Rattle.lead.proofs.Products.{products-end}
 
 -- r is a nearest month so far, with n behind it if n is after a
 abbrev pub Under : ℕ → ℕ → ℕ → Type 0
@@ -71,6 +72,11 @@ in-after : (a r : ℕ) (s : List Contract) → After a r → After a (nextIn a r
 in-after a r [] u = u
 in-after a r (c ∷ s) u = in-after a (sooner a r (c .month)) s (sooner-after a r (c .month) u)
 
+-- the nearest month over the sheets of some products
+abbrev pub nextOf : List Sheet → ℕ → ℕ → List ℕ → ℕ
+nextOf ss a r [] = r
+nextOf ss a r (p ∷ ps) = nextOf ss a (nextIn a r (contractsOf (getD ss p noSheet))) ps
+
 module _ (ss : List Sheet) where
   abbrev sheetAt : ℕ → List Contract
   sheetAt p = contractsOf (getD ss p noSheet)
@@ -99,3 +105,7 @@ module _ (ss : List Sheet) where
   pub next-after : (a r : ℕ) (ps : List ℕ) → After a r → After a (nextOf ss a r ps)
   next-after a r [] u = u
   next-after a r (p ∷ ps) u = next-after a (nextIn a r (sheetAt p)) ps (in-after a r (sheetAt p) u)
+
+  -- where a loop over the products of a group is through, its month is the next
+  pub next-all : (a r p hi : ℕ) (group : List ℕ) → hi ≤ p → nextOf ss a 0 group ≡ nextOf ss a r (productsFrom p (hi - p)) → r ≡ nextOf ss a 0 group
+  next-all a r p hi group h e = sym (e ∙ ap (nextOf ss a r) (products-end p hi h))

@@ -22,8 +22,8 @@ use Rattle.book.specs.Book.{limitIn, todayIn, lastIn, viewProduct}
 use Rattle.lead.specs.declared.Condition.{Condition}
 use Rattle.book.proofs.SheetsIn.{sheet-contracts}
 use Rattle.lead.specs.Lead.{meets, productsFrom, movesOf, Readable}
-use Rattle.lead.specs.Search.{countEarlier, changeMeets, meetsOn, nextOf}
-use Rattle.lead.proofs.Nexts.{Under, next-under}
+use Rattle.lead.specs.Search.{countEarlier, changeMeets, meetsOn}
+use Rattle.lead.proofs.Nexts.{Under, nextOf, next-under}
 use Rattle.lead.proofs.Members.{Member, member-any, any-member, member-left, member-right, member-either}
 use Rattle.lead.proofs.Leads.{leadBy, Behind, none-lead, one-leads}
 use Rattle.lead.proofs.MovesIn.{hasMove, moves-of-month, move-number}
@@ -63,9 +63,9 @@ changed-listed g p i e m isFirst true x y h = absurd (false≢true h)
 changed-listed g p i e m isFirst false none y h = h
 changed-listed g p i e m isFirst false (some x) y h = refl
 
--- no contract of products lo to hi meets f up to month b
+-- no contract of products lo to hi meets f before month m
 abbrev pub Clear : (ℕ → ℕ → Bool) → ℕ → ℕ → ℕ → Type 0
-Clear f lo hi b = (q n : ℕ) → lo ≤ q → q < hi → n ≤ b → f q n ≡ false
+Clear f lo hi m = (q n : ℕ) → lo ≤ q → q < hi → n < m → f q n ≡ false
 
 -- none of products lo to p meets f in month m
 abbrev pub ClearAt : (ℕ → ℕ → Bool) → ℕ → ℕ → ℕ → Type 0
@@ -110,27 +110,27 @@ module _ (b : Book) (today left : ℕ) (condition : Condition) where
     under : (a p n : ℕ) → lo ≤ p → p < hi → isMet p n ≡ true → Under a (nextOf (b .today) a 0 group) n
     under a p n k l e = next-under (b .today) a 0 n lo (hi - lo) p k (omega arith) (listing p n e)
 
-    -- where nothing meets it up to that month, there is a next month, and no contract that meets it is nearer
-    nearest : (a m p n : ℕ) → m ≡ nextOf (b .today) a 0 group → Clear isMet lo hi a → lo ≤ p → p < hi → isMet p n ≡ true
-        → (0 < m) × (m ≤ n)
-    nearest a m p n e clear k l met =
+    -- where nothing meets it up to month a, there is a next month, and no contract that meets it is nearer
+    nearest : (a m p n : ℕ) → m ≡ nextOf (b .today) a 0 group → Clear isMet lo hi a → ClearAt isMet lo hi a → lo ≤ p → p < hi
+        → isMet p n ≡ true → (0 < m) × (m ≤ n)
+    nearest a m p n e clear here k l met =
         ⊎-elim (λ late. subst (λ (x : ℕ). (0 < x) × (x ≤ n)) (sym e) (under a p n k l met late))
-        (λ early. absurd (false≢true (sym (clear p n k l early) ∙ met)))
+        (λ early. absurd (false≢true (sym (⊎-elim (λ same. rw same (here p k l)) (λ before. clear p n k l before) (eq-or-lt-of-le early)) ∙ met)))
         (lt-or-ge a n)
 
+    -- before the date's month every contract is spot
     pub clear-spot : Clear isMet lo hi today
     unfolding isMet meetsOn isSpot
-    clear-spot p n k l h = rw (le-leb n today h)
+    clear-spot p n k l h = let early : n ≤ today = omega arith in rw (le-leb n today early)
 
-    pub clear-next : (a m : ℕ) → m ≡ nextOf (b .today) a 0 group → Clear isMet lo hi a → ClearAt isMet lo hi m → Clear isMet lo hi m
+    pub clear-next : (a m : ℕ) → m ≡ nextOf (b .today) a 0 group → Clear isMet lo hi a → ClearAt isMet lo hi a → Clear isMet lo hi m
     clear-next a m e clear here p n k l h = go (isMet p n) refl
       where
         go : (x : Bool) → isMet p n ≡ x → isMet p n ≡ false
         go false v = v
         go true v =
-            let w : (0 < m) × (m ≤ n) = nearest a m p n e clear k l v in
-            let same : n ≡ m = omega arith in
-            rw same (here p k l)
+            let w : (0 < m) × (m ≤ n) = nearest a m p n e clear here k l v in
+            absurd (omega arith)
 
     -- a move that meets the condition is its product's in its month
     met-by : (v : Move) (p : ℕ) → p < hi → Member v (movesBy p) → g v ≡ true → isMet p (v .month) ≡ true
@@ -139,10 +139,10 @@ module _ (b : Book) (today left : ℕ) (condition : Condition) where
         ∙ member-any (λ w. eqb (w .month) (v .month) && g w) v (movesBy p) d
         (&&-both (eqb (v .month) (v .month)) (g v) (eq-eqb (v .month) (v .month) refl) e)
 
-    pub none-leads : (a m : ℕ) → m ≡ nextOf (b .today) a 0 group → m ≡ 0 → Clear isMet lo hi a
+    pub none-leads : (a m : ℕ) → m ≡ nextOf (b .today) a 0 group → m ≡ 0 → Clear isMet lo hi a → ClearAt isMet lo hi a
         → leading (keep g (movesOf b today left group)) ≡ none
     unfolding movesOf
-    none-leads a m e z clear = none-lead g (movesOf b today left group) unmet
+    none-leads a m e z clear here = none-lead g (movesOf b today left group) unmet
       where
         unmet : (v : Move) → Member v (movesOf b today left group) → g v ≡ false
         unmet v d = go (g v) refl
@@ -153,17 +153,19 @@ module _ (b : Book) (today left : ℕ) (condition : Condition) where
                 one-of (productMoves spot) (viewProduct b) v (g v ≡ false) lo (hi - lo) d
                 (λ p k l j.
                 let h : p < hi = omega arith in
-                let w : (0 < m) × (m ≤ v .month) = nearest a m p (v .month) e clear k h (met-by v p h j u) in
+                let w : (0 < m) × (m ≤ v .month) = nearest a m p (v .month) e clear here k h (met-by v p h j u) in
                 absurd (omega arith))
 
-    -- the first product that meets the condition in the next month
-    module _ (a m p : ℕ) (e : m ≡ nextOf (b .today) a 0 group) (clear : Clear isMet lo hi a) (k : lo ≤ p) (l : p < hi) (here : ClearAt isMet lo p m) where
+    -- the first product that meets the condition in a month before which nothing does
+    module _ (m p : ℕ) (clear : Clear isMet lo hi m) (k : lo ≤ p) (l : p < hi) (here : ClearAt isMet lo p m) where
       first : (n t : ℕ) → lo ≤ t → t < hi → isMet t n ≡ true → (m < n) ⊎ ((m ≡ n) × (p ≤ t))
       first n t i j met =
-          let w : (0 < m) × (m ≤ n) = nearest a m t n e clear i j met in
+          ⊎-elim (λ before. absurd (false≢true (sym (clear t n i j before) ∙ met)))
+          (λ from.
           ⊎-elim
           (λ same. ⊎-elim (λ lower. absurd (false≢true (sym (here t i lower) ∙ rw same met))) (λ h. inr (same, h)) (lt-or-ge t p))
-          (λ later. inl later) (eq-or-lt-of-le (w .1))
+          (λ later. inl later) (eq-or-lt-of-le from))
+          (lt-or-ge n m)
 
       low : (v : Move) → v .month ≡ m → v .product ≡ p → (w : Move) → Member w (movesOf b today left group) → g w ≡ true
           → Behind (leadBy v) (leadBy w)

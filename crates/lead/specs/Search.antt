@@ -1,23 +1,15 @@
 -- The search for the leading contract: the next month, and whether a product's contract of a month meets the condition.
 -- For the functions inside: what the search promises is in Lead.antt alone.
-use Prim.Native.Nat.{ℕ, _+_, _<_, _≤_}
+use Prim.Native.Nat.{ℕ, _+_}
 use mathlib.Core.Bool.{Bool, false, _&&_, _||_, cond}
 use mathlib.Core.List.{List, [], _∷_}
 use mathlib.Core.Option.{Option, some, none}
 use lib.Dec.{ltb, eqb}
-use lib.ListN.{getD}
 use Rattle.grain.specs.Lists.{distance}
 use Rattle.grain.specs.Products.{firstOf}
 use Rattle.record.specs.declared.Contract.{Contract}
 use Rattle.record.specs.State.{settlementOn}
 use Rattle.record.specs.End.{Move}
-use Rattle.sheets.specs.declared.Sheet.{Sheet}
-use Rattle.sheets.specs.Sheets.{contractsOf}
-use Rattle.book.specs.Book.{noSheet}
-
--- the counts of eight sheets are at most 16
-abbrev pub Counted : List Sheet → Type 0
-Counted ss = (p : ℕ) → p < 8 → (getD ss p noSheet) .len ≤ 16
 
 -- the nearer month after a: r so far, which is 0 where there is none, or m
 unfoldable pub sooner : ℕ → ℕ → ℕ → ℕ
@@ -26,11 +18,6 @@ sooner a r m = cond (ltb a m && (eqb r 0 || ltb m r)) m r
 abbrev pub nextIn : ℕ → ℕ → List Contract → ℕ
 nextIn a r [] = r
 nextIn a r (c ∷ s) = nextIn a (sooner a r (c .month)) s
-
--- over the sheets of some products
-abbrev pub nextOf : List Sheet → ℕ → ℕ → List ℕ → ℕ
-nextOf ss a r [] = r
-nextOf ss a r (p ∷ ps) = nextOf ss a (nextIn a r (contractsOf (getD ss p noSheet))) ps
 
 module _ (spot : ℕ → Bool) (m : ℕ) where
   -- 1 for a non-spot contract before month m

@@ -6,7 +6,7 @@ ghost use Rattle.record.specs.Choices.{keep};
 ghost use Rattle.record.specs.End.{leading as leadOf};
 ghost use Rattle.lead.specs.Lead.{meets, foundAs, productsFrom, movesOf, Readable};
 use book::Book;
-use months::next_month;
+use months::next_in;
 use moves::meets_in;
 use record::Lead;
 
@@ -33,27 +33,28 @@ pub fn leading(b: Book, today: u32, left: u32, condition: Condition, lo: usize, 
     requires { ⌜ (lo ≤ hi) × (hi ≤ 8) × Readable b ⌝ }
     ensures { λ r. ⌜ r ≡ foundAs (leadOf (keep (meets condition) (movesOf b today left (productsFrom lo (hi - lo))))) ⌝ }
 {
-    let sheets = b.today;
     let mut month = today;
     let mut found = Found::Nobody;
     'search: loop {
-        let m = next_month(sheets, lo, hi, month);
-        if m == 0 {
-            break 'search;
-        }
+        // The nearest month after this one; 0 is none.
+        let mut next: u32 = 0;
         for p in lo..hi {
             let t = b.today[p];
             let l = b.last[p];
             let limit = b.limits[p];
-            if meets_in(condition, p as u32, limit, t, l, m, today, left) {
+            if meets_in(condition, p as u32, limit, t, l, month, today, left) {
                 found = Found::At(Lead {
-                    month: m,
+                    month,
                     product: p as u32,
                 });
                 break 'search;
             }
+            next = next_in(t, month, next);
         }
-        month = m;
+        if next == 0 {
+            break 'search;
+        }
+        month = next;
     }
     found
 }

@@ -62,10 +62,10 @@ pub fn meets_in(
     let size = sheets::distance(x, y);
     match condition {
         Condition::Trigger => {
-            if grain::first_contracts(product) <= count_earlier(current, month, today, left) {
+            if size != limit.initial {
                 return false;
             }
-            size == limit.initial
+            count_earlier(current, month, today, left) < grain::first_contracts(product)
         }
         Condition::Holding => limit.initial <= size,
         Condition::AtExpanded => size == limit.expanded,

@@ -7,38 +7,35 @@ use borrow.Author.Count.{below-more}
 use Rattle.lead.specs.declared.Found.the-variants.{Nobody}
 use Rattle.lead.specs.Lead.{foundAs, productsFrom}
 use Rattle.lead.proofs.Searched.{isMet, Clear, ClearAt, clear-spot, clear-next, none-leads, this-leads}
-use Rattle.lead.proofs.Nexts.{next-after}
+use Rattle.lead.proofs.Products.{products-next}
+use Rattle.lead.proofs.Nexts.{nextOf, next-after, next-all}
 use Rattle.lead.proofs.leading.Statement.{statement}
 use Rattle.lead.proofs.leading.Tie as tie
 
 abbrev Inv-loop : tie.InvT-loop
-Inv-loop today left condition lo hi b sheets month found₀ m p₀ found p =
-    (lo ≤ p) × (p ≤ hi) × (found ≡ Nobody) × ClearAt (isMet b today left condition) lo p m
+Inv-loop today left condition lo hi b month found₀ next₀ p₀ found next p =
+    (lo ≤ p) × (p ≤ hi) × (found ≡ Nobody) × ClearAt (isMet b today left condition) lo p month
+    × (nextOf (b .today) month 0 (productsFrom lo (hi - lo)) ≡ nextOf (b .today) month next (productsFrom p (hi - p)))
+    × (next < 2 ^ 32)
 
 abbrev μ-loop : tie.MeasureT-loop
-μ-loop today left condition lo hi b sheets month found₀ m p₀ found p = hi - p
+μ-loop today left condition lo hi b month found₀ next₀ p₀ found next p = hi - p
 
 abbrev Inv-search : tie.InvT-search
-Inv-search today left condition lo hi b sheets month₀ found₀ month found =
+Inv-search today left condition lo hi b month₀ found₀ month found =
     (found ≡ Nobody) × Clear (isMet b today left condition) lo hi month
 
 abbrev μ-search : tie.MeasureT-search
-μ-search today left condition lo hi b sheets month₀ found₀ month found = 2 ^ 32 - month
+μ-search today left condition lo hi b month₀ found₀ month found = 2 ^ 32 - month
 
 search-holds : tie.Need-search-holds Inv-loop μ-loop Inv-search μ-search
 search-holds c =
-    let s = c .before in
-    let a = s .args in
-    (refl, clear-spot (a .t1) (a .today) (a .left) (a .condition) (a .lo) (a .hi) (s .pre .0) (s .pre .1) (s .pre .2))
-
-next-month-requires : tie.Need-next-month-requires Inv-loop μ-loop Inv-search μ-search
-next-month-requires c κs =
-    let s = c .before .before in
-    (s .pre .0, s .pre .1, s .pre .2 .today)
+    let a = c .args in
+    (refl, clear-spot (a .t1) (a .today) (a .left) (a .condition) (a .lo) (a .hi) (c .pre .0) (c .pre .1) (c .pre .2))
 
 loop-holds : tie.Need-loop-holds Inv-loop μ-loop Inv-search μ-search
 loop-holds c =
-    (omega arith, omega arith, c .before .before .search .inv .0, λ q k l. absurd (omega arith))
+    (omega arith, omega arith, c .search .inv .0, λ q k l. absurd (omega arith), refl, omega arith)
 
 mul-t : tie.Need-mul-t Inv-loop μ-loop Inv-search μ-search
 mul-t c = search needs
@@ -63,11 +60,15 @@ cast-meets-in c = search needs
 
 meets-in-requires : tie.Need-meets-in-requires Inv-loop μ-loop Inv-search μ-search
 meets-in-requires c κs =
-    let sound = c .before .before .before .before .before .before .before .before .before .pre .2 in
+    let sound = c .before .before .before .before .before .before .pre .2 in
     (sound .today _ (omega arith), sound .last _ (omega arith))
 
-cast-t29 : tie.Need-cast-t29 Inv-loop μ-loop Inv-search μ-search
-cast-t29 c = search needs
+cast-t27 : tie.Need-cast-t27 Inv-loop μ-loop Inv-search μ-search
+cast-t27 c = search needs
+
+next-in-requires : tie.Need-next-in-requires Inv-loop μ-loop Inv-search μ-search
+next-in-requires c κs =
+    c .before .before .before .before .before .before .before .before .pre .2 .today _ (omega arith)
 
 add-p : tie.Need-add-p Inv-loop μ-loop Inv-search μ-search
 add-p c = search needs
@@ -78,61 +79,72 @@ loop-less c = search needs
 loop-again : tie.Need-loop-again Inv-loop μ-loop Inv-search μ-search
 unfolding isMet
 loop-again c =
-    let k = c .before .before .before .before .before .before in
-    let n = k .before .before in
-    let a = n .before .before .before .args in (
+    let k = c .before .before .before .before .before .before .before in
+    let month = k .before .search .month in
+    let a = k .before .before .args in
+    let more = products-next (k .loop .p) (a .hi) (omega arith) in (
       omega arith,
       omega arith,
       k .loop .inv .2,
       λ q l h.
-          below-more (λ (x : ℕ). a .lo ≤ x → isMet (a .t1) (a .today) (a .left) (a .condition) x (n .next-month .result) ≡ false) (k .loop .p)
-          (λ x i j. k .loop .inv .3 x j i) (λ _. sym (c .before .meets-in .ensures) ∙ c .if2 .left) q h l,
+          below-more (λ (x : ℕ). a .lo ≤ x → isMet (a .t1) (a .today) (a .left) (a .condition) x month ≡ false) (k .loop .p)
+          (λ x i j. k .loop .inv .3 x j i) (λ _. sym (c .before .before .meets-in .ensures) ∙ c .before .if1 .left) q h l,
+      k .loop .inv .4 ∙ rw (more, c .next-in .ensures),
+      c .next-in .ok,
     )
+
+-- the products are through: what the loop has is the next month
+through : (c : tie.After-loop Inv-loop μ-loop Inv-search μ-search)
+    → let k = c .before in
+    let a = k .before .before .args in
+    k .loop .next ≡ nextOf (a .t1 .today) (k .before .search .month) 0 (productsFrom (a .lo) (a .hi - a .lo))
+through c =
+    let k = c .before in
+    let a = k .before .before .args in
+    next-all (a .t1 .today) (k .before .search .month) (k .loop .next) (k .loop .p) (a .hi) (productsFrom (a .lo) (a .hi - a .lo)) (omega arith) (k .loop .inv .4)
 
 search-less : tie.Need-search-less Inv-loop μ-loop Inv-search μ-search
 search-less c =
-    let n = c .before .before .before in
-    let a = n .before .before .before .args in
-    let month = n .before .search .month in
-    let late : month < n .next-month .result =
-    rw (n .next-month .ensures)
+    let k = c .before .before in
+    let a = k .before .before .args in
+    let month = k .before .search .month in
+    let late : month < k .loop .next =
+    rw (through (c .before))
     (next-after (a .t1 .today) month 0 (productsFrom (a .lo) (a .hi - a .lo)) (λ z. absurd (omega arith))
-    (rw (← n .next-month .ensures) (omega arith))) in
-    omega (arith, n .next-month .ok)
+    (rw (← through (c .before)) (omega arith))) in
+    omega (arith, k .loop .inv .5)
 
 search-again : tie.Need-search-again Inv-loop μ-loop Inv-search μ-search
 search-again c =
-    let n = c .before .before .before in
-    let s = n .before .before .before in
-    let a = s .args in
-    let k = c .before .loop in (
-      k .inv .2,
+    let k = c .before .before in
+    let s = k .before .before in
+    let a = s .args in (
+      k .loop .inv .2,
       clear-next (a .t1) (a .today) (a .left) (a .condition) (a .lo) (a .hi) (s .pre .0) (s .pre .1) (s .pre .2) _ _
-          (n .next-month .ensures) (n .before .search .inv .1) (λ q l h. k .inv .3 q l (omega arith)),
+          (through (c .before)) (k .before .search .inv .1) (λ q l h. k .loop .inv .3 q l (omega arith)),
     )
 
 returns : tie.Need-returns Inv-loop μ-loop Inv-search μ-search
-returns c =
-    let n = c .before in
-    let s = n .before .before .before in
-    let a = s .args in
-    n .before .search .inv .0
-    ∙ sym
-    (ap foundAs
-    (none-leads (a .t1) (a .today) (a .left) (a .condition) (a .lo) (a .hi) (s .pre .0) (s .pre .1) (s .pre .2) _ _
-    (n .next-month .ensures) (c .if1 .taken) (n .before .search .inv .1)))
-
-returns-2 : tie.Need-returns-2 Inv-loop μ-loop Inv-search μ-search
 unfolding isMet
-returns-2 c =
+returns c =
     let k = c .before .before .before .before .before .before in
-    let n = k .before .before in
-    let s = n .before .before .before in
+    let s = k .before .before in
     let a = s .args in
     sym
     (ap foundAs
-    (this-leads (a .t1) (a .today) (a .left) (a .condition) (a .lo) (a .hi) (s .pre .0) (s .pre .1) (s .pre .2) _ _ (k .loop .p)
-    (n .next-month .ensures) (n .before .search .inv .1) (k .loop .inv .0) (omega arith) (k .loop .inv .3) (sym (c .before .meets-in .ensures) ∙ c .if2 .taken)))
+    (this-leads (a .t1) (a .today) (a .left) (a .condition) (a .lo) (a .hi) (s .pre .0) (s .pre .1) (s .pre .2) _ (k .loop .p)
+    (k .before .search .inv .1) (k .loop .inv .0) (omega arith) (k .loop .inv .3) (sym (c .before .meets-in .ensures) ∙ c .if1 .taken)))
+
+returns-2 : tie.Need-returns-2 Inv-loop μ-loop Inv-search μ-search
+returns-2 c =
+    let k = c .before .before in
+    let s = k .before .before in
+    let a = s .args in
+    k .loop .inv .2
+    ∙ sym
+    (ap foundAs
+    (none-leads (a .t1) (a .today) (a .left) (a .condition) (a .lo) (a .hi) (s .pre .0) (s .pre .1) (s .pre .2) _ _
+    (through (c .before)) (c .if2 .taken) (k .before .search .inv .1) (λ q l h. k .loop .inv .3 q l (omega arith))))
 
 pub leading-spec : {M : Type 1} → statement M
 leading-spec =
@@ -143,7 +155,6 @@ leading-spec =
     Inv-search
     μ-search
     search-holds
-    next-month-requires
     loop-holds
     mul-t
     element-copy-out-t
@@ -153,7 +164,8 @@ leading-spec =
     element-copy-out-limit
     cast-meets-in
     meets-in-requires
-    cast-t29
+    cast-t27
+    next-in-requires
     add-p
     loop-less
     loop-again

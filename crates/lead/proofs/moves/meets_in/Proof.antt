@@ -1,8 +1,8 @@
 use borrow.Author.Needs.{needs}
-use mathlib.Core.Bool.{Bool, false}
-use mathlib.Core.Path.{_≡_, sym, _∙_}
+use mathlib.Core.Bool.{Bool, true, false, _&&_}
+use mathlib.Core.Path.{_≡_, refl, sym, _∙_}
 use lib.Dec.{ltb}
-use borrow.Author.Tests.{lt-ltb, le-ltb}
+use borrow.Author.Tests.{eq-eqb, ne-eqb}
 use Rattle.grain.specs.Spot.{isSpot}
 use Rattle.grain.specs.Products.{firstOf}
 use Rattle.record.specs.State.{settlementOn}
@@ -85,16 +85,27 @@ distance-requires c κs = search needs
 enum-told-3 : tie.Need-enum-told-3
 enum-told-3 c = search needs
 
-first-contracts-requires : tie.Need-first-contracts-requires
-first-contracts-requires c κs = search needs
+-- the first N are asked after only where the size is I
+without : (a : Bool) → false ≡ a && false
+without true = refl
+without false = refl
+
+alone : (a : Bool) → a ≡ a && true
+alone true = refl
+alone false = refl
+
+returns-4 : tie.Need-returns-4
+returns-4 c =
+    let k = c .before .before in
+    let a = k .before .before .before .before .before .before .before .before .before .before .before .before .before .args in
+    let first = ltb (countEarlier (λ month. isSpot month (a .today) (a .left)) (a .month) (contractsOf (a .current))) (firstOf (a .product)) in
+    rw (met (k .before .before) _, k .enum-told3 .given .1, ne-eqb _ _ (c .if2 .taken)) (without first)
 
 count-earlier-requires : tie.Need-count-earlier-requires
 count-earlier-requires c κs = search needs
 
-returns-4 : tie.Need-returns-4
-returns-4 c =
-    let k = c .before .before .before in
-    rw (met (k .before .before) _, k .enum-told3 .given .1, sym (c .before .count-earlier .ensures), sym (c .before .before .first-contracts .ensures), le-ltb _ _ (c .if2 .taken))
+first-contracts-requires : tie.Need-first-contracts-requires
+first-contracts-requires c κs = search needs
 
 enum-told-4 : tie.Need-enum-told-4
 enum-told-4 c = search needs
@@ -105,7 +116,7 @@ enum-told-5 c = search needs
 returns-5 : tie.Need-returns-5
 returns-5 c =
     let k = c .before .before .before .before in
-    rw (met (k .before .before) _, k .enum-told3 .given .1, sym (c .before .before .count-earlier .ensures), sym (c .before .before .before .first-contracts .ensures), lt-ltb _ _ (c .before .if2 .left))
+    rw (met (k .before .before) _, k .enum-told3 .given .1, eq-eqb _ _ (c .before .before .if2 .left), c .before .count-earlier .ensures, c .first-contracts .ensures) (alone _)
 
 returns-6 : tie.Need-returns-6
 returns-6 c =
@@ -131,9 +142,9 @@ meets-in-spec =
     returns-3
     distance-requires
     enum-told-3
-    first-contracts-requires
-    count-earlier-requires
     returns-4
+    count-earlier-requires
+    first-contracts-requires
     enum-told-4
     enum-told-5
     returns-5
