@@ -30,6 +30,7 @@ pub struct Standing {
     pub marked: bool,
 }
 
+// Copy a field before you index it: an index into a book that came by value has the whole book copied.
 pub struct Book {
     pub limits: [Limit; 8],
     pub standings: [Standing; 6],

@@ -33,6 +33,7 @@ pub fn leading(b: Book, today: u32, left: u32, condition: Condition, lo: usize, 
     requires { ⌜ (lo ≤ hi) × (hi ≤ 8) × Readable b ⌝ }
     ensures { λ r. ⌜ r ≡ foundAs (leadOf (keep (meets condition) (movesOf b today left (productsFrom lo (hi - lo))))) ⌝ }
 {
+    // In the date's month every contract is spot: the first turn only finds the next month.
     let mut month = today;
     let mut found = Found::Nobody;
     'search: loop {

@@ -76,7 +76,7 @@ pub fn collected(w: Windows, p: usize, settlement: u32) -> Windows
     extended(without_oldest(w, p), p, settlement)
 }
 
-// Whether each settlement is in range and on the tick.
+// Whether each settlement is in range and on the tick. It goes through to the end, so that the compiler can test several at a time.
 pub fn are_on_tick(tick: u32, settlements: &[u32]) -> bool
     ensures { λ r. ⌜ r ≡ every (isOnTick tick) (now (settlements .entry)) ⌝ }
 {
