@@ -8,7 +8,7 @@ use Rattle.record.specs.State.{Day, initial, expanded}
 use Rattle.record.specs.Founding.{Start, founded}
 use Rattle.record.specs.End.{eventOf, Quiet, Triggered, Held, Reverted, Raised}
 use Rattle.record.specs.Record.{Call, opening, sheet, end, ended}
-use Rattle.record.proofs.Examples.{corn, soybeans, oil, meal, cornGroup, complex, jul24, aug24, sep24, oct24, dec24, jan25, mar25, may25, jul25, june3, june4, june5, june6, june7, june26, june27, on, aBook, oneContract, unmoved, fullDay, cornMonths, notCorn, cornDay, flat, notComplex, complexDay, stateOf, answersAfter, limits, lead, outcome}
+use Rattle.record.proofs.Examples.{corn, soybeans, oil, meal, cornGroup, complex, jul24, aug24, sep24, oct24, dec24, jan25, mar25, may25, jul25, june3, june4, june5, june6, june7, june26, june27, on, aBook, oneContract, unmoved, fullDay, cornMonths, notCorn, cornDay, flat, notComplex, complexDay, stateOf, answersAfter, limits, lead, outcome, in-one-run}
 
 -- ---- the first N
 -- a day with Corn sheets of five contracts
@@ -27,7 +27,7 @@ pub fifthContract :
       limits = limits 200 320 ∷ [];
     }
 unfolding stateOf
-fifthContract = refl
+fifthContract = in-one-run _ _ _ _ refl
 
 -- with a new contract before it, which has no change, it is the sixth and does not
 pub sixthByNewContract :
@@ -36,7 +36,7 @@ pub sixthByNewContract :
     ++ cornDay june4 (4000 ∷ 4000 ∷ 4000 ∷ 4000 ∷ 9000 ∷ 4200 ∷ []))
     ≡ record { events = Quiet ∷ Quiet ∷ []; level = initial; mark = false; limits = limits 200 320 ∷ [] }
 unfolding stateOf
-sixthByNewContract = refl
+sixthByNewContract = in-one-run _ _ _ _ refl
 
 -- left 2: July is not spot, its move by I triggers
 pub beforeSpot :
@@ -48,14 +48,14 @@ pub beforeSpot :
       limits = limits 200 320 ∷ [];
     }
 unfolding stateOf
-beforeSpot = refl
+beforeSpot = in-one-run _ _ _ _ refl
 
 -- left 1: July is spot and does not count
 pub onSpot :
     outcome aBook cornGroup (cornDay june3 flat ++ cornDay june27 (4200 ∷ 4000 ∷ 4000 ∷ 4000 ∷ 4000 ∷ 4000 ∷ []))
     ≡ record { events = Quiet ∷ Quiet ∷ []; level = initial; mark = false; limits = limits 200 320 ∷ [] }
 unfolding stateOf
-onSpot = refl
+onSpot = in-one-run _ _ _ _ refl
 
 -- nor does it take a place in the first N: the sixth listed is the fifth non-spot
 pub fifthAfterSpot :
@@ -67,7 +67,7 @@ pub fifthAfterSpot :
       limits = limits 200 320 ∷ [];
     }
 unfolding stateOf
-fifthAfterSpot = refl
+fifthAfterSpot = in-one-run _ _ _ _ refl
 
 -- Oil's N is 8: nine contracts
 abbrev nineContracts : Day → List ℕ → List Call
@@ -90,7 +90,7 @@ pub eighthOfOil :
       limits = limits 400 600 ∷ limits 200 300 ∷ limits 200 300 ∷ [];
     }
 unfolding stateOf
-eighthOfOil = refl
+eighthOfOil = in-one-run _ _ _ _ refl
 
 -- its ninth does not
 pub ninthOfOil :
@@ -103,7 +103,7 @@ pub ninthOfOil :
       limits = limits 400 600 ∷ limits 200 300 ∷ limits 200 300 ∷ [];
     }
 unfolding stateOf
-ninthOfOil = refl
+ninthOfOil = in-one-run _ _ _ _ refl
 
 -- ---- the mark
 abbrev expandedCorn : List Call
@@ -131,7 +131,7 @@ pub spotDoesNotHold :
       limits = limits 200 320 ∷ [];
     }
 unfolding stateOf
-spotDoesNotHold = refl
+spotDoesNotHold = in-one-run _ _ _ _ refl
 
 -- held by 318, a tick less than E: no mark
 pub heldBelowExpanded :
@@ -143,7 +143,7 @@ pub heldBelowExpanded :
       limits = limits 200 320 ∷ [];
     }
 unfolding stateOf
-heldBelowExpanded = refl
+heldBelowExpanded = in-one-run _ _ _ _ refl
 
 -- held by exactly E: marked
 pub heldAtExpanded :
@@ -155,7 +155,7 @@ pub heldAtExpanded :
       limits = limits 200 320 ∷ [];
     }
 unfolding stateOf
-heldAtExpanded = refl
+heldAtExpanded = in-one-run _ _ _ _ refl
 
 -- E, then held without E, then E again: not raised
 pub notRaised :
@@ -177,7 +177,7 @@ pub notRaised :
       limits = limits 200 320 ∷ [];
     }
 unfolding stateOf
-notRaised = refl
+notRaised = in-one-run _ _ _ _ refl
 
 -- marked, then reverted: the mark is gone
 pub markLost :
@@ -192,7 +192,7 @@ pub markLost :
       limits = limits 200 320 ∷ [];
     }
 unfolding stateOf
-markLost = refl
+markLost = in-one-run _ _ _ _ refl
 
 -- ---- the Soybean Complex
 -- Soybeans alone at its I
@@ -205,7 +205,7 @@ pub soybeansAlone :
       limits = limits 400 600 ∷ limits 200 300 ∷ limits 200 300 ∷ [];
     }
 unfolding stateOf
-soybeansAlone = refl
+soybeansAlone = in-one-run _ _ _ _ refl
 
 -- Oil alone
 pub oilAlone :
@@ -217,7 +217,7 @@ pub oilAlone :
       limits = limits 400 600 ∷ limits 200 300 ∷ limits 200 300 ∷ [];
     }
 unfolding stateOf
-oilAlone = refl
+oilAlone = in-one-run _ _ _ _ refl
 
 -- Meal alone
 pub mealAlone :
@@ -229,7 +229,7 @@ pub mealAlone :
       limits = limits 400 600 ∷ limits 200 300 ∷ limits 200 300 ∷ [];
     }
 unfolding stateOf
-mealAlone = refl
+mealAlone = in-one-run _ _ _ _ refl
 
 -- each by its own amounts: Soybeans at 200, the I of Oil, is quiet
 pub byItsOwnAmount :
@@ -241,7 +241,7 @@ pub byItsOwnAmount :
       limits = limits 400 600 ∷ limits 200 300 ∷ limits 200 300 ∷ [];
     }
 unfolding stateOf
-byItsOwnAmount = refl
+byItsOwnAmount = in-one-run _ _ _ _ refl
 
 -- Oil alone from 200/300 raises the three: each its old E, and E afresh by its own step
 pub raisedByOil :
@@ -257,7 +257,7 @@ pub raisedByOil :
       limits = limits 600 920 ∷ limits 300 450 ∷ limits 300 450 ∷ [];
     }
 unfolding stateOf
-raisedByOil = refl
+raisedByOil = in-one-run _ _ _ _ refl
 
 -- Oil at E on one day and Meal at E on the next raise them too
 pub raisedByOilAndMeal :
@@ -273,7 +273,7 @@ pub raisedByOilAndMeal :
       limits = limits 600 920 ∷ limits 300 450 ∷ limits 300 450 ∷ [];
     }
 unfolding stateOf
-raisedByOilAndMeal = refl
+raisedByOilAndMeal = in-one-run _ _ _ _ refl
 
 -- Soybeans at 1,000,000
 abbrev soybeansAtMost : Start
@@ -304,7 +304,7 @@ pub capReached :
       limits = limits 2000000 2000000 ∷ limits 450 700 ∷ limits 450 700 ∷ [];
     }
 unfolding stateOf
-capReached = refl
+capReached = in-one-run _ _ _ _ refl
 
 -- ---- the leading contract
 -- Soybeans in two months, and Oil in one between them
@@ -324,7 +324,7 @@ pub nearestMonthLeads :
       limits = limits 400 600 ∷ limits 200 300 ∷ limits 200 300 ∷ [];
     }
 unfolding stateOf
-nearestMonthLeads = refl
+nearestMonthLeads = in-one-run _ _ _ _ refl
 
 -- in one month the lowest product number leads
 pub lowestProductLeads :
@@ -336,7 +336,7 @@ pub lowestProductLeads :
       limits = limits 400 600 ∷ limits 200 300 ∷ limits 200 300 ∷ [];
     }
 unfolding stateOf
-lowestProductLeads = refl
+lowestProductLeads = in-one-run _ _ _ _ refl
 
 -- held is led by the nearest that moved by I or more, raised by the nearest that moved by exactly E
 pub leadsByEvent :
@@ -352,7 +352,7 @@ pub leadsByEvent :
       limits = limits 320 480 ∷ [];
     }
 unfolding stateOf
-leadsByEvent = refl
+leadsByEvent = in-one-run _ _ _ _ refl
 
 -- ---- moves that no list of calls reaches, since a sheet with them is refused
 -- a move beyond I at the initial level is not exactly I: quiet

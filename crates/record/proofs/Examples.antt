@@ -1,5 +1,6 @@
 -- Example books and days, for the vectors.
 use Prim.Native.Nat.{ℕ, zero, suc, _+_}
+use mathlib.Core.Path.{_≡_, refl, sym, _∙_, ap}
 use mathlib.Core.Bool.{Bool}
 use mathlib.Core.List.{List, [], _∷_, _++_, map}
 use lib.ListN.{getD}
@@ -245,8 +246,35 @@ abbrev outcomeBy : List Event → Group → Outcome
 outcomeBy events g =
     record { events = events; level = g .level; mark = g .mark; limits = map limitsOf (g .products) }
 
-abbrev pub outcome : Record → ℕ → List Call → Outcome
-outcome r g cs = outcomeBy (eventsOf g (answers r cs)) (groupAt (stateOf r cs) g)
+unfoldable pub outcome : Record → ℕ → List Call → Outcome
+outcome r g cs = outcomeBy (eventsOf g (answers r cs)) (groupAt (stateAfter r cs) g)
+
+-- The same in one run through the list, so that a vector computes each call once.
+record Run : Type 0 where
+  answers : List Answer
+  state : Record
+
+abbrev afterOne : Result → Run → Run
+afterOne t u = record { answers = t .answer ∷ u .answers; state = u .state }
+
+abbrev runFrom : Result → (Record → Run) → Run
+runFrom t rest = afterOne t (rest (t .state))
+
+abbrev runOf : List Call → Record → Run
+runOf [] r = record { answers = []; state = r }
+runOf (c ∷ cs) r = runFrom (step r c) (runOf cs)
+
+run-is : (cs : List Call) (r : Record) → runOf cs r ≡ record { answers = answers r cs; state = stateAfter r cs }
+unfolding answers stateAfter
+run-is [] r = refl
+run-is (c ∷ cs) r = ap (afterOne (step r c)) (run-is cs (step r c .state))
+
+abbrev outcomeOf : ℕ → Run → Outcome
+outcomeOf g u = outcomeBy (eventsOf g (u .answers)) (groupAt (u .state) g)
+
+pub in-one-run : (r : Record) (g : ℕ) (cs : List Call) (o : Outcome) → outcomeOf g (runOf cs r) ≡ o → outcome r g cs ≡ o
+unfolding outcome
+in-one-run r g cs o e = sym (ap (outcomeOf g) (run-is cs r)) ∙ e
 
 -- What an opening shows of the eight products.
 pub record Renewal : Type 0 where

@@ -12,7 +12,7 @@ use Rattle.grain.specs.declared.check.Verdict.the-variants.{Within}
 use Rattle.record.specs.State.{initial, expanded}
 use Rattle.record.specs.End.{Quiet, Triggered, Held, Reverted, Raised}
 use Rattle.record.specs.Record.{opening, check, checked}
-use Rattle.record.proofs.Examples.{corn, soybeans, oil, meal, oats, rice, cornGroup, complex, jul24, may25, jul25, june3, june4, june5, june6, aBook, cornDay, flat, complexDay, stateOf, answersAfter, limits, lead, outcome}
+use Rattle.record.proofs.Examples.{corn, soybeans, oil, meal, oats, rice, cornGroup, complex, jul24, may25, jul25, june3, june4, june5, june6, aBook, cornDay, flat, complexDay, stateOf, answersAfter, limits, lead, outcome, in-one-run}
 
 pub record Marked : Type 0 where
   -- E: Corn I 200, E 320
@@ -119,11 +119,11 @@ marked =
       h₂ = refl;
       h₃ = refl;
       h₄ = refl;
-      i = refl;
-      j = refl;
-      k = refl;
-      l = refl;
-      m = refl;
-      n₁ = refl;
+      i = in-one-run _ _ _ _ refl;
+      j = in-one-run _ _ _ _ refl;
+      k = in-one-run _ _ _ _ refl;
+      l = in-one-run _ _ _ _ refl;
+      m = in-one-run _ _ _ _ refl;
+      n₁ = in-one-run _ _ _ _ refl;
       n₂ = refl;
     }

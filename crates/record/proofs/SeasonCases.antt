@@ -7,7 +7,7 @@ use lib.ListN.{replicate}
 use Rattle.record.specs.State.{Day, Record, initial, expanded}
 use Rattle.record.specs.End.{Quiet, Triggered, Held, Raised}
 use Rattle.record.specs.Record.{Call, opening, sheet, opened}
-use Rattle.record.proofs.Examples.{corn, soybeans, oil, meal, chicagoWheat, kcWheat, oats, rice, cornGroup, jul25, nov25, dec25, on, aBook, aBookWith, usualSettlement, oneContract, fullDay, quietDay, cornJulyDay, daysOf2025, stateOf, Limits, limits, lead, outcome, renewal}
+use Rattle.record.proofs.Examples.{corn, soybeans, oil, meal, chicagoWheat, kcWheat, oats, rice, cornGroup, jul25, nov25, dec25, on, aBook, aBookWith, usualSettlement, oneContract, fullDay, quietDay, cornJulyDay, daysOf2025, stateOf, Limits, limits, lead, outcome, in-one-run, renewal}
 
 -- the limits of the example book
 abbrev asFounded : List Limits
@@ -151,7 +151,7 @@ pub markCarriedOver :
       limits = limits 440 680 ∷ [];
     }
 unfolding stateOf
-markCarriedOver = refl
+markCarriedOver = in-one-run _ _ _ _ refl
 
 -- a move of exactly the new E then raises
 pub raisedOverSeason :
@@ -163,4 +163,4 @@ pub raisedOverSeason :
       limits = limits 680 1040 ∷ [];
     }
 unfolding stateOf
-raisedOverSeason = refl
+raisedOverSeason = in-one-run _ _ _ _ refl
