@@ -36,7 +36,7 @@ fn count_earlier(s: Sheet, month: u32, today: u32, left: u32) -> u32
     count
 }
 
-// `current` and `last` are the product's sheets, today's and that of the last ended day.
+// `current` and `last` are the product's sheets, today's and that of the last ended day. It is pub for the search alone, whose sheets are sound.
 pub fn meets_in(
     condition: Condition,
     product: u32,

@@ -24,6 +24,7 @@ fn season_of(d: Day) -> u32
 }
 
 // Exactly one season after that of the last opened day; the first opening has none before it.
+// This and the next are pub for an accepted opening alone, which has tested both days.
 pub fn is_next_season(last: Day, d: Day) -> bool
     requires { ⌜ NoneOrTrue last × (isTrueDay d ≡ true) ⌝ }
     ensures { λ r. ⌜ r ≡ isNextSeason (openedOf last) d ⌝ }

@@ -31,8 +31,7 @@ fn start() -> Reading {
     }
 }
 
-// Reads on through a block, and answers each line that ends in it. What is handed on is a copy of the word: the word itself can then
-// stay in registers from byte to byte.
+// Reads on through a block, and answers each line that ends in it. A word is handed on as a copy, so that it can stay in registers.
 fn read_block(
     r: Reading,
     block: &[u8],

@@ -1,13 +1,8 @@
 use borrow.Author.Needs.{needs}
-use native.Mathlib.Omega.{arith}
 use Rattle.tally.specs.Tally.{talliedAnswer}
 use Rattle.tally.proofs.Takes.{refuses, takes}
 use Rattle.tally.proofs.answer.Statement.{statement}
 use Rattle.tally.proofs.answer.Tie as tie
-use Rattle.tally.proofs.answer.Reads as reads
-use Rattle.tally.proofs.answer.Lts as lts
-use Rattle.checking.proofs.check.Reads as check-reads
-use Rattle.tally.proofs.counts.refusal.Reads as refusal-reads
 
 refusal-requires : tie.Need-refusal-requires
 refusal-requires c κs = search needs

@@ -1,5 +1,4 @@
 use borrow.Author.Needs.{needs}
-use native.Mathlib.Omega.{arith}
 use Prim.Native.Nat.{_-_, _≤_}
 use mathlib.Core.Path.{_≡_, refl, sym, _∙_}
 use lib.ListN.{length, drop}
@@ -8,9 +7,6 @@ use Rattle.grain.specs.Lists.{_and_, every}
 use Rattle.grain.specs.Prices.{isOnTick}
 use Rattle.windows.proofs.are_on_tick.Statement.{statement}
 use Rattle.windows.proofs.are_on_tick.Tie as tie
-use Rattle.windows.proofs.are_on_tick.Reads as reads
-use Rattle.windows.proofs.are_on_tick.Lts as lts
-use Rattle.grain.proofs.is_on_tick.Reads as is-on-tick-reads
 
 abbrev Inv-loop : tie.InvT-loop
 Inv-loop tick settlements all₀ i₀ all i =

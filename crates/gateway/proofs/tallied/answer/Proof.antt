@@ -1,12 +1,7 @@
 use borrow.Author.Needs.{needs}
-use native.Mathlib.Omega.{arith}
 use Rattle.tally.proofs.Takes.{refuses, takes}
 use Rattle.gateway.proofs.tallied.answer.Statement.{statement}
 use Rattle.gateway.proofs.tallied.answer.Tie as tie
-use Rattle.gateway.proofs.tallied.answer.Reads as reads
-use Rattle.gateway.proofs.tallied.answer.Lts as lts
-use Rattle.gateway.proofs.botskhela_bare_check.Reads as botskhela-bare-check-reads
-use Rattle.tally.proofs.refusal.Reads as refusal-reads
 
 refusal-requires : tie.Need-refusal-requires
 refusal-requires c κs = search needs

@@ -1,11 +1,7 @@
-use borrow.Author.Needs.{needs}
-use native.Mathlib.Omega.{arith}
 use borrow.Author.Tests.{eq-eqb, ne-eqb}
 use Rattle.gateway.specs.Tallied.{kindOfNumber}
 use Rattle.gateway.proofs.tallied.kind_of.Statement.{statement}
 use Rattle.gateway.proofs.tallied.kind_of.Tie as tie
-use Rattle.gateway.proofs.tallied.kind_of.Reads as reads
-use Rattle.gateway.proofs.tallied.kind_of.Lts as lts
 
 returns : tie.Need-returns
 unfolding kindOfNumber

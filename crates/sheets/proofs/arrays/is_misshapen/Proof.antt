@@ -2,8 +2,6 @@ use borrow.Author.Tests.{eq-eqb, ne-eqb}
 use Rattle.record.specs.Sheet.{isMisshapen}
 use Rattle.sheets.proofs.arrays.is_misshapen.Statement.{statement}
 use Rattle.sheets.proofs.arrays.is_misshapen.Tie as tie
-use Rattle.sheets.proofs.arrays.is_misshapen.Reads as reads
-use Rattle.sheets.proofs.arrays.is_misshapen.Lts as lts
 
 returns : tie.Need-returns
 unfolding isMisshapen

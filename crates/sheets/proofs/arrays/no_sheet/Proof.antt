@@ -2,8 +2,6 @@ use mathlib.Core.Path.{refl}
 use Rattle.sheets.specs.Sheets.{sheetIn}
 use Rattle.sheets.proofs.arrays.no_sheet.Statement.{statement}
 use Rattle.sheets.proofs.arrays.no_sheet.Tie as tie
-use Rattle.sheets.proofs.arrays.no_sheet.Reads as reads
-use Rattle.sheets.proofs.arrays.no_sheet.Lts as lts
 
 returns : tie.Need-returns
 unfolding sheetIn

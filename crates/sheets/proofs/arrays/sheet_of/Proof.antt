@@ -9,8 +9,6 @@ use Rattle.sheets.proofs.Left.{counted}
 use Rattle.sheets.proofs.Fills.{contracts-length, fill-next}
 use Rattle.sheets.proofs.arrays.sheet_of.Statement.{statement}
 use Rattle.sheets.proofs.arrays.sheet_of.Tie as tie
-use Rattle.sheets.proofs.arrays.sheet_of.Reads as reads
-use Rattle.sheets.proofs.arrays.sheet_of.Lts as lts
 
 abbrev Inv-loop : tie.InvT-loop
 Inv-loop months settlements n all₀ i₀ all i = (i ≤ n) × (length all ≡ 16) × (take i all ≡ take i (contracts months settlements))

@@ -10,9 +10,6 @@ use Rattle.sheets.specs.Sheets.{contractsOf, settlementsOf}
 use Rattle.sheets.proofs.Left.{mapped, every-fails, every-goes-on, every-end}
 use Rattle.sheets.proofs.tests.are_settlements.Statement.{statement}
 use Rattle.sheets.proofs.tests.are_settlements.Tie as tie
-use Rattle.sheets.proofs.tests.are_settlements.Reads as reads
-use Rattle.sheets.proofs.tests.are_settlements.Lts as lts
-use Rattle.grain.proofs.is_on_tick.Reads as is-on-tick-reads
 
 abbrev Inv-loop : tie.InvT-loop
 Inv-loop product s tick n i₀ i =

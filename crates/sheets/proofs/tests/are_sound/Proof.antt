@@ -9,10 +9,6 @@ use Rattle.sheets.proofs.Left.{mapped}
 use Rattle.sheets.proofs.InOneLoop.{areSound, soundFrom, sound-start, sound-fails, sound-goes-on, sound-end}
 use Rattle.sheets.proofs.tests.are_sound.Statement.{statement}
 use Rattle.sheets.proofs.tests.are_sound.Tie as tie
-use Rattle.sheets.proofs.tests.are_sound.Reads as reads
-use Rattle.sheets.proofs.tests.are_sound.Lts as lts
-use Rattle.grain.proofs.tick.Reads as tick-reads
-use Rattle.sheets.proofs.tests.is_sound_contract.Reads as is-sound-contract-reads
 
 abbrev Inv-loop : tie.InvT-loop
 Inv-loop product s tick n from₀ i₀ from i =

@@ -7,9 +7,6 @@ use Rattle.sheets.proofs.Left.{mapped}
 use Rattle.sheets.proofs.Soundness.{sound-by-tests}
 use Rattle.sheets.proofs.tests.is_sound.Statement.{statement}
 use Rattle.sheets.proofs.tests.is_sound.Tie as tie
-use Rattle.sheets.proofs.tests.is_sound.Reads as reads
-use Rattle.sheets.proofs.tests.is_sound.Lts as lts
-use Rattle.sheets.proofs.tests.are_sound.Reads as are-sound-reads
 
 returns : tie.Need-returns
 unfolding sheetIn isSoundSheet

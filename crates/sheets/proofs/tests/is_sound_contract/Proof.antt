@@ -4,10 +4,6 @@ use borrow.Author.Tests.{lt-leb, le-leb, not-true, not-false}
 use Rattle.grain.specs.Lists.{_and_}
 use Rattle.sheets.proofs.tests.is_sound_contract.Statement.{statement}
 use Rattle.sheets.proofs.tests.is_sound_contract.Tie as tie
-use Rattle.sheets.proofs.tests.is_sound_contract.Reads as reads
-use Rattle.sheets.proofs.tests.is_sound_contract.Lts as lts
-use Rattle.grain.proofs.is_on_tick.Reads as is-on-tick-reads
-use Rattle.grain.proofs.is_traded.Reads as is-traded-reads
 
 cast-if1 : tie.Need-cast-if1
 cast-if1 c = search needs

@@ -1,13 +1,8 @@
 use borrow.Author.Needs.{needs}
-use native.Mathlib.Omega.{arith}
 use Rattle.tally.specs.Tally.{counted}
 use Rattle.tally.proofs.Takes.{refuses, takes}
 use Rattle.tally.proofs.counts.counted.Statement.{statement}
 use Rattle.tally.proofs.counts.counted.Tie as tie
-use Rattle.tally.proofs.counts.counted.Reads as reads
-use Rattle.tally.proofs.counts.counted.Lts as lts
-use Rattle.tally.proofs.counts.one_more.Reads as one-more-reads
-use Rattle.tally.proofs.counts.refusal.Reads as refusal-reads
 
 refusal-requires : tie.Need-refusal-requires
 refusal-requires c κs = search needs

@@ -1,10 +1,7 @@
 use borrow.Author.Needs.{needs}
-use native.Mathlib.Omega.{arith}
 use Rattle.tally.proofs.Takes.{taking}
 use Rattle.tally.proofs.counts.one_more.Statement.{statement}
 use Rattle.tally.proofs.counts.one_more.Tie as tie
-use Rattle.tally.proofs.counts.one_more.Reads as reads
-use Rattle.tally.proofs.counts.one_more.Lts as lts
 
 add-u : tie.Need-add-u
 add-u c =

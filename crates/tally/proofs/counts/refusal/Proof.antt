@@ -1,13 +1,9 @@
 use borrow.Author.Needs.{needs}
-use native.Mathlib.Omega.{arith}
 use mathlib.Core.Path.{sym, _∙_}
 use borrow.Author.Tests.{eq-eqb, ne-eqb}
 use Rattle.tally.specs.Tally.{isSoundTally, isFull, tallyRefusal}
 use Rattle.tally.proofs.counts.refusal.Statement.{statement}
 use Rattle.tally.proofs.counts.refusal.Tie as tie
-use Rattle.tally.proofs.counts.refusal.Reads as reads
-use Rattle.tally.proofs.counts.refusal.Lts as lts
-use Rattle.tally.proofs.counts.sum_of.Reads as sum-of-reads
 
 sum-of-requires : tie.Need-sum-of-requires
 sum-of-requires c κs = search needs
