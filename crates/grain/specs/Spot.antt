@@ -2,7 +2,9 @@
 use Prim.Native.Nat.{ℕ, _+_}
 use mathlib.Core.Bool.{Bool, _&&_, _||_}
 use lib.Dec.{leb, eqb}
+-- the contract month that a date is in, and what the rule calls left: the business days of that month after the date
+use Rattle.grain.specs.declared.spot.TradeDate.{TradeDate}
 
--- today: the contract month of the date. The rule calls left the business days of that month after the date.
-unfoldable pub isSpot : ℕ → ℕ → ℕ → Bool
-isSpot month today left = leb month today || (eqb month (today + 1) && leb left 1)
+-- a contract month is spot on a date
+unfoldable pub isSpot : TradeDate → ℕ → Bool
+isSpot d month = leb month (d .month) || (eqb month (d .month + 1) && leb (d .left) 1)

@@ -28,4 +28,4 @@ pub use products::first_contracts;
 pub use products::is_product;
 pub use products::is_traded;
 pub use products::tick;
-pub use spot::is_spot;
+pub use spot::TradeDate;

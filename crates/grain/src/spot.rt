@@ -2,15 +2,25 @@
 ghost use mathlib.Core.Path.{_≡_};
 ghost use Rattle.grain.specs.Spot.{isSpot};
 
-// `today` is the contract month of the date, `left` the business days of that month after it.
-pub fn is_spot(month: u32, today: u32, left: u32) -> bool
-    ensures { λ r. ⌜ r ≡ isSpot month today left ⌝ }
-{
-    if month <= today {
-        return true;
+// A date as spot is judged by it.
+pub struct TradeDate {
+    // The contract month that the date is in.
+    pub month: u32,
+    // The business days of that month after the date.
+    pub left: u32,
+}
+
+impl TradeDate {
+    // Whether a contract month is spot on the date.
+    pub fn is_spot(self, month: u32) -> bool
+        ensures { λ r. ⌜ r ≡ isSpot self month ⌝ }
+    {
+        if month <= self.month {
+            return true;
+        }
+        if month != self.month + 1 {
+            return false;
+        }
+        self.left <= 1
     }
-    if month != today + 1 {
-        return false;
-    }
-    left <= 1
 }

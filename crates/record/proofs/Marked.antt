@@ -5,14 +5,13 @@ use mathlib.Core.List.{[], _∷_, _++_}
 use lib.ListN.{replicate}
 use Rattle.grain.specs.Amounts.{expandedOf}
 use Rattle.grain.specs.Dates.{contractMonth, isDate}
-use Rattle.grain.specs.Spot.{isSpot}
 use Rattle.grain.specs.Margin.{seasonLimits}
 use Rattle.grain.specs.declared.margin.SeasonLimits.the-variants.{Are}
 use Rattle.grain.specs.declared.check.Verdict.the-variants.{Within}
-use Rattle.record.specs.State.{initial, expanded}
+use Rattle.record.specs.State.{initial, expanded, isSpotOn}
 use Rattle.record.specs.End.{Quiet, Triggered, Held, Reverted, Raised}
 use Rattle.record.specs.Record.{opening, check, checked}
-use Rattle.record.proofs.Examples.{corn, soybeans, oil, meal, oats, rice, cornGroup, complex, jul24, may25, jul25, june3, june4, june5, june6, aBook, cornDay, flat, complexDay, stateOf, answersAfter, limits, lead, outcome, in-one-run}
+use Rattle.record.proofs.Examples.{corn, soybeans, oil, meal, oats, rice, cornGroup, complex, jul24, may25, jul25, june3, june4, june5, june6, june26, june27, aBook, cornDay, flat, complexDay, stateOf, answersAfter, limits, lead, outcome, in-one-run}
 
 pub record Marked : Type 0 where
   -- E: Corn I 200, E 320
@@ -31,10 +30,10 @@ pub record Marked : Type 0 where
   pub g : seasonLimits rice (replicate 45 3000) ≡ Are 210 320
   -- 2024-06-27, left 1: July is spot
   pub h₁ : isDate 2024 6 27 ≡ true
-  pub h₂ : isSpot (contractMonth 2024 7) (contractMonth 2024 6) 1 ≡ true
+  pub h₂ : isSpotOn june27 (contractMonth 2024 7) ≡ true
   -- 06-26, left 2: not
   pub h₃ : isDate 2024 6 26 ≡ true
-  pub h₄ : isSpot (contractMonth 2024 7) (contractMonth 2024 6) 2 ≡ false
+  pub h₄ : isSpotOn june26 (contractMonth 2024 7) ≡ false
   -- Corn 200/320: fifth non-spot −200, others 0: expanded
   pub i :
       outcome aBook cornGroup

@@ -7,6 +7,7 @@ use lib.Dec.{eqb}
 use lib.ListN.{getD}
 use Rattle.grain.specs.Lists.{isIn}
 use Rattle.grain.specs.Dates.{contractMonth}
+use Rattle.grain.specs.declared.spot.TradeDate.{TradeDate}
 use Rattle.grain.specs.Spot.{isSpot}
 use Rattle.record.specs.Choices.{orElse}
 -- a date with what the rule calls left, the business days of that month after this day; and a contract of a sheet
@@ -74,9 +75,12 @@ dayOf c = orElse (c .opened) noDay
 abbrev pub monthOf : Day → ℕ
 monthOf d = contractMonth (d .year) (d .month)
 
+abbrev pub tradeDate : Day → TradeDate
+tradeDate d = record { month = monthOf d; left = d .left }
+
 -- a contract month is spot on a day
 abbrev pub isSpotOn : Day → ℕ → Bool
-isSpotOn d month = isSpot month (monthOf d) (d .left)
+isSpotOn d month = isSpot (tradeDate d) month
 
 abbrev pub groupAt : Record → ℕ → Group
 groupAt r g = getD (r .groups) g noGroup

@@ -1,5 +1,5 @@
 -- The three tests of a sheet in one loop: what is left of the contracts is tested from the least month that the next may have.
-use Prim.Native.Nat.{ℕ, _+_, _<_, _≤_}
+use Prim.Native.Nat.{ℕ, _+_, _<_, _≤_, min}
 use mathlib.Core.Path.{_≡_, refl, _∙_, ap}
 use mathlib.Core.Bool.{Bool, true, false, _&&_}
 use mathlib.Core.List.{List, [], _∷_}
@@ -11,11 +11,8 @@ use Rattle.grain.specs.Products.{isTraded}
 use Rattle.grain.specs.Prices.{isSettlement}
 use Rattle.record.specs.declared.Contract.{Contract}
 use Rattle.sheets.specs.declared.Sheet.{Sheet}
-use Rattle.sheets.specs.Sheets.{noContract, contractsOf, monthsOf, settlementsOf}
-use Rattle.sheets.proofs.Left.{left-next, left-end}
-
-abbrev pub areSound : ℕ → List Contract → Bool
-areSound p cs = isAscending (monthsOf cs) and every (isTraded p) (monthsOf cs) and every (isSettlement p) (settlementsOf cs)
+use Rattle.sheets.specs.Sheets.{noContract, entriesOf, areSoundContracts}
+use Rattle.sheets.proofs.Rest.{rest-next, rest-end}
 
 abbrev isSoundContract : ℕ → ℕ → Contract → Bool
 isSoundContract p from c = leb from (c .month) and isTraded p (c .month) and isSettlement p (c .settlement)
@@ -26,7 +23,7 @@ firstFrom from [] = true
 firstFrom from (c ∷ cs) = leb from (c .month)
 
 unfoldable pub soundFrom : ℕ → ℕ → List Contract → Bool
-soundFrom p from cs = firstFrom from cs and areSound p cs
+soundFrom p from cs = firstFrom from cs and areSoundContracts p cs
 
 -- from test after test over a contract and those after it, to that contract's three tests before all the others'
 regroup : (first next rise traded others settled rest : Bool)
@@ -52,26 +49,26 @@ sound-cons p from c [] = regroup (leb from (c .month)) true true (isTraded p (c 
 sound-cons p from c (d ∷ cs) = rw add-one (regroup (leb from (c .month)) _ _ (isTraded p (c .month)) _ (isSettlement p (c .settlement)) _)
 
 -- no month is before 0
-pub sound-start : (p : ℕ) (cs : List Contract) → areSound p cs ≡ soundFrom p 0 cs
+pub sound-start : (p : ℕ) (cs : List Contract) → areSoundContracts p cs ≡ soundFrom p 0 cs
 unfolding soundFrom _and_
 sound-start p [] = refl
 sound-start p (c ∷ cs) = rw (leb·zero (c .month))
 
-module _ (s : Sheet) (i : ℕ) (long : length (s .contracts) ≡ 16) (l : s .len ≤ 16) (h : i < s .len) (p from : ℕ) where
-  sound-next : soundFrom p from (drop i (contractsOf s))
+module _ (s : Sheet) (i n : ℕ) (long : length (s .contracts) ≡ 16) (e : n ≡ min 16 (s .len)) (p from : ℕ) where
+  sound-next : i < n → soundFrom p from (drop i (entriesOf s))
       ≡ (isSoundContract p from (getD (s .contracts) i noContract)
-      and soundFrom p (getD (s .contracts) i noContract .month + 1) (drop (i + 1) (contractsOf s)))
-  sound-next = ap (soundFrom p from) (left-next s i long l h) ∙ sound-cons p from _ _
+      and soundFrom p (getD (s .contracts) i noContract .month + 1) (drop (i + 1) (entriesOf s)))
+  sound-next h = ap (soundFrom p from) (rest-next s i n long e h) ∙ sound-cons p from _ _
 
-  pub sound-fails : isSoundContract p from (getD (s .contracts) i noContract) ≡ false → soundFrom p from (drop i (contractsOf s)) ≡ false
+  pub sound-fails : i < n → isSoundContract p from (getD (s .contracts) i noContract) ≡ false → soundFrom p from (drop i (entriesOf s)) ≡ false
   unfolding _and_
-  sound-fails e = sound-next ∙ rw e
+  sound-fails h fails = sound-next h ∙ rw fails
 
-  pub sound-goes-on : isSoundContract p from (getD (s .contracts) i noContract) ≡ true
-      → soundFrom p from (drop i (contractsOf s)) ≡ soundFrom p (getD (s .contracts) i noContract .month + 1) (drop (i + 1) (contractsOf s))
+  pub sound-goes-on : i < n → isSoundContract p from (getD (s .contracts) i noContract) ≡ true
+      → soundFrom p from (drop i (entriesOf s)) ≡ soundFrom p (getD (s .contracts) i noContract .month + 1) (drop (i + 1) (entriesOf s))
   unfolding _and_
-  sound-goes-on e = sound-next ∙ rw e
+  sound-goes-on h passes = sound-next h ∙ rw passes
 
-pub sound-end : (s : Sheet) (i : ℕ) → s .len ≤ 16 → s .len ≤ i → (p from : ℕ) → soundFrom p from (drop i (contractsOf s)) ≡ true
-unfolding soundFrom _and_ every isAscending
-sound-end s i l h p from = ap (soundFrom p from) (left-end s i l h)
+  pub sound-end : n ≤ i → soundFrom p from (drop i (entriesOf s)) ≡ true
+  unfolding soundFrom _and_ every isAscending
+  sound-end h = ap (soundFrom p from) (rest-end s i n long e h)

@@ -1,4 +1,4 @@
-pub mod Left
+pub mod Rest
 pub mod Fills
 pub mod Lookups
 pub mod Soundness

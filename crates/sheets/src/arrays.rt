@@ -1,11 +1,11 @@
 // A sheet from two lent arrays.
 ghost use mathlib.Core.Path.{_≡_};
 ghost use mathlib.Core.Option.{none};
-ghost use Prim.Native.Nat.{_≤_};
-ghost use lib.ListN.{length};
-ghost use Rattle.record.specs.Sheet.{contracts, isMisshapen};
-ghost use Rattle.sheets.specs.Sheets.{contractsOf, sheetIn};
+ghost use Prim.Native.Nat.{min};
+ghost use Rattle.record.specs.Sheet.{isMisshapen};
+ghost use Rattle.sheets.specs.Sheets.{sheetIn, SheetOf};
 use crate::Sheet;
+use crate::reach;
 use record::Contract;
 
 pub fn is_misshapen(months: &[u32], settlements: &[u32]) -> bool
@@ -20,36 +20,46 @@ pub fn is_misshapen(months: &[u32], settlements: &[u32]) -> bool
     16 < months.len()
 }
 
-pub fn sheet_of(months: &[u32], settlements: &[u32]) -> Sheet
-    requires { ⌜ length (now months) ≤ 16 ⌝ }
-    requires { ⌜ length (now settlements) ≡ length (now months) ⌝ }
-    ensures { λ r. ⌜ (r .len ≡ length (now (months .entry))) × (contractsOf r ≡ contracts (now (months .entry)) (now (settlements .entry))) ⌝ }
+fn smaller(a: usize, b: usize) -> usize
+    ensures { λ r. ⌜ r ≡ min a b ⌝ }
 {
-    let n = months.len();
-    let mut all = [Contract {
-        month: 0,
-        settlement: 0,
-    }; 16];
-    for i in 0..n {
-        all[i] = Contract {
-            month: months[i],
-            settlement: settlements[i],
-        };
+    if a < b {
+        return a;
     }
-    Sheet {
-        contracts: all,
-        len: n,
-    }
+    b
 }
 
-pub fn no_sheet() -> Sheet
-    ensures { λ r. ⌜ sheetIn r ≡ none ⌝ }
-{
-    Sheet {
-        contracts: [Contract {
+impl Sheet {
+    // The first 16 of the months and settlements put together.
+    pub fn of(months: &[u32], settlements: &[u32]) -> Sheet
+        ensures { λ r. ⌜ SheetOf (now (months .entry)) (now (settlements .entry)) r ⌝ }
+    {
+        let n = reach(smaller(months.len(), settlements.len()));
+        let mut all = [Contract {
             month: 0,
             settlement: 0,
-        }; 16],
-        len: 0,
+        }; 16];
+        for i in 0..n {
+            all[i] = Contract {
+                month: months[i],
+                settlement: settlements[i],
+            };
+        }
+        Sheet {
+            contracts: all,
+            len: n,
+        }
+    }
+
+    pub fn none() -> Sheet
+        ensures { λ r. ⌜ sheetIn r ≡ none ⌝ }
+    {
+        Sheet {
+            contracts: [Contract {
+                month: 0,
+                settlement: 0,
+            }; 16],
+            len: 0,
+        }
     }
 }

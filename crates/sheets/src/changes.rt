@@ -1,41 +1,25 @@
-// A sheet against the last ended one: what is missing, and what moved too far. `today` is the contract month of the date.
+// A sheet against the last ended one: what is missing, and what moved too far.
 ghost use mathlib.Core.Path.{_≡_};
-ghost use Prim.Native.Nat.{_≤_};
 ghost use Rattle.grain.specs.Lists.{distance as apart};
 ghost use Rattle.grain.specs.Spot.{isSpot};
 ghost use Rattle.record.specs.Sheet.{isAbsent, lacksContract, hasMovedBeyond, isBeyond};
-ghost use Rattle.sheets.specs.Sheets.{contractsOf};
+ghost use Rattle.sheets.specs.Sheets.{entriesOf};
 use crate::Sheet;
 use crate::lookup::Listed;
-use crate::lookup::find;
+use crate::reach;
+use grain::TradeDate;
 use record::Contract;
 
-fn is_absent(c: Contract, today: u32, left: u32, s: Sheet) -> bool
-    requires { ⌜ s .len ≤ 16 ⌝ }
-    ensures { λ r. ⌜ r ≡ isAbsent (λ month. isSpot month today left) (contractsOf s) c ⌝ }
+fn is_absent(c: Contract, date: TradeDate, s: Sheet) -> bool
+    ensures { λ r. ⌜ r ≡ isAbsent (isSpot date) (entriesOf s) c ⌝ }
 {
     let month = c.month;
-    if grain::is_spot(month, today, left) {
+    if date.is_spot(month) {
         return false;
     }
-    let Listed::At(_) = find(s, month) else {
+    let Listed::At(_) = s.find(month) else {
         return true;
     };
-    false
-}
-
-// A contract of the last ended sheet, non-spot today, is not on the sheet.
-pub fn lacks_contract(today: u32, left: u32, last: Sheet, s: Sheet) -> bool
-    requires { ⌜ (last .len ≤ 16) × (s .len ≤ 16) ⌝ }
-    ensures { λ r. ⌜ r ≡ lacksContract (λ month. isSpot month today left) (contractsOf last) (contractsOf s) ⌝ }
-{
-    let n = last.len;
-    for i in 0..n {
-        let c = last.contracts[i];
-        if is_absent(c, today, left, s) {
-            return true;
-        }
-    }
     false
 }
 
@@ -49,31 +33,45 @@ pub fn distance(a: u32, b: u32) -> u32
     a - b
 }
 
-fn has_moved_beyond(c: Contract, today: u32, left: u32, limit: u32, last: Sheet) -> bool
-    requires { ⌜ last .len ≤ 16 ⌝ }
-    ensures { λ r. ⌜ r ≡ hasMovedBeyond (λ month. isSpot month today left) limit (contractsOf last) c ⌝ }
+fn has_moved_beyond(c: Contract, date: TradeDate, limit: u32, last: Sheet) -> bool
+    ensures { λ r. ⌜ r ≡ hasMovedBeyond (isSpot date) limit (entriesOf last) c ⌝ }
 {
     let month = c.month;
-    if grain::is_spot(month, today, left) {
+    if date.is_spot(month) {
         return false;
     }
-    let Listed::At(earlier) = find(last, month) else {
+    let Listed::At(earlier) = last.find(month) else {
         return false;
     };
     limit < distance(c.settlement, earlier)
 }
 
-// A non-spot change is beyond the limit.
-pub fn is_beyond(today: u32, left: u32, limit: u32, last: Sheet, s: Sheet) -> bool
-    requires { ⌜ (last .len ≤ 16) × (s .len ≤ 16) ⌝ }
-    ensures { λ r. ⌜ r ≡ isBeyond (λ month. isSpot month today left) limit (contractsOf last) (contractsOf s) ⌝ }
-{
-    let n = s.len;
-    for i in 0..n {
-        let c = s.contracts[i];
-        if has_moved_beyond(c, today, left, limit, last) {
-            return true;
+impl Sheet {
+    // A contract of the last ended sheet, non-spot on the date, is not on this one.
+    pub fn lacks_contract(self, date: TradeDate, last: Sheet) -> bool
+        ensures { λ r. ⌜ r ≡ lacksContract (isSpot date) (entriesOf last) (entriesOf self) ⌝ }
+    {
+        let n = reach(last.len);
+        for i in 0..n {
+            let c = last.contracts[i];
+            if is_absent(c, date, self) {
+                return true;
+            }
         }
+        false
     }
-    false
+
+    // A non-spot change from the last ended sheet is beyond the limit.
+    pub fn is_beyond(self, date: TradeDate, limit: u32, last: Sheet) -> bool
+        ensures { λ r. ⌜ r ≡ isBeyond (isSpot date) limit (entriesOf last) (entriesOf self) ⌝ }
+    {
+        let n = reach(self.len);
+        for i in 0..n {
+            let c = self.contracts[i];
+            if has_moved_beyond(c, date, limit, last) {
+                return true;
+            }
+        }
+        false
+    }
 }

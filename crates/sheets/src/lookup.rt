@@ -1,25 +1,26 @@
 // The settlement of a month on a sheet.
 ghost use mathlib.Core.Path.{_≡_};
-ghost use Prim.Native.Nat.{_≤_};
 ghost use Rattle.record.specs.State.{settlementOn};
-ghost use Rattle.sheets.specs.Sheets.{contractsOf, listedAs};
+ghost use Rattle.sheets.specs.Sheets.{entriesOf, listedAs};
 use crate::Sheet;
+use crate::reach;
 
 pub enum Listed {
     At(u32),
     Nothing,
 }
 
-pub fn find(s: Sheet, month: u32) -> Listed
-    requires { ⌜ s .len ≤ 16 ⌝ }
-    ensures { λ r. ⌜ r ≡ listedAs (settlementOn (contractsOf s) month) ⌝ }
-{
-    let n = s.len;
-    for i in 0..n {
-        let c = s.contracts[i];
-        if c.month == month {
-            return Listed::At(c.settlement);
+impl Sheet {
+    pub fn find(self, month: u32) -> Listed
+        ensures { λ r. ⌜ r ≡ listedAs (settlementOn (entriesOf self) month) ⌝ }
+    {
+        let n = reach(self.len);
+        for i in 0..n {
+            let c = self.contracts[i];
+            if c.month == month {
+                return Listed::At(c.settlement);
+            }
         }
+        Listed::Nothing
     }
-    Listed::Nothing
 }

@@ -1,15 +1,10 @@
 use borrow.Author.Needs.{needs}
 use mathlib.Core.Path.{sym, _∙_}
 use Rattle.record.specs.State.{settlementOn}
-use Rattle.sheets.specs.Sheets.{contractsOf}
+use Rattle.sheets.specs.Sheets.{entriesOf}
 use Rattle.sheets.proofs.Lookups.{is-none, is-some}
 use Rattle.sheets.proofs.changes.has_moved_beyond.Statement.{statement}
 use Rattle.sheets.proofs.changes.has_moved_beyond.Tie as tie
-use Rattle.sheets.proofs.changes.has_moved_beyond.Reads as reads
-use Rattle.sheets.proofs.changes.has_moved_beyond.Lts as lts
-use Rattle.grain.proofs.is_spot.Reads as is-spot-reads
-use Rattle.sheets.proofs.changes.distance.Reads as distance-reads
-use Rattle.sheets.proofs.lookup.find.Reads as find-reads
 
 is-spot-requires : tie.Need-is-spot-requires
 is-spot-requires c κs = search needs
@@ -31,7 +26,7 @@ returns-2 c =
     let k = c .before .before in
     let a = k .before .before .before .args in
     rw
-    (sym (k .before .before .is-spot .ensures) ∙ k .before .if1 .left, is-none (settlementOn (contractsOf (a .last)) (a .c .month)) (sym (k .find .ensures) ∙ c .enum-told .given .1))
+    (sym (k .before .before .is-spot .ensures) ∙ k .before .if1 .left, is-none (settlementOn (entriesOf (a .last)) (a .c .month)) (sym (k .find .ensures) ∙ c .enum-told .given .1))
 
 distance-requires : tie.Need-distance-requires
 distance-requires c κs = search needs
@@ -41,7 +36,7 @@ returns-3 c =
     let k = c .before .before .before .before in
     let a = k .before .before .before .args in
     rw
-    (sym (k .before .before .is-spot .ensures) ∙ k .before .if1 .left, is-some (settlementOn (contractsOf (a .last)) (a .c .month)) _ (sym (k .find .ensures) ∙ c .before .before .earlier .given .1), c .distance .ensures)
+    (sym (k .before .before .is-spot .ensures) ∙ k .before .if1 .left, is-some (settlementOn (entriesOf (a .last)) (a .c .month)) _ (sym (k .find .ensures) ∙ c .before .before .earlier .given .1), c .distance .ensures)
 
 pub has-moved-beyond-spec : {M : Type 1} → statement M
 has-moved-beyond-spec =

@@ -1,14 +1,10 @@
 use borrow.Author.Needs.{needs}
 use mathlib.Core.Path.{sym, _∙_}
 use Rattle.record.specs.State.{settlementOn}
-use Rattle.sheets.specs.Sheets.{contractsOf}
+use Rattle.sheets.specs.Sheets.{entriesOf}
 use Rattle.sheets.proofs.Lookups.{is-none, is-some}
 use Rattle.sheets.proofs.changes.is_absent.Statement.{statement}
 use Rattle.sheets.proofs.changes.is_absent.Tie as tie
-use Rattle.sheets.proofs.changes.is_absent.Reads as reads
-use Rattle.sheets.proofs.changes.is_absent.Lts as lts
-use Rattle.grain.proofs.is_spot.Reads as is-spot-reads
-use Rattle.sheets.proofs.lookup.find.Reads as find-reads
 
 is-spot-requires : tie.Need-is-spot-requires
 is-spot-requires c κs = search needs
@@ -30,14 +26,14 @@ returns-2 c =
     let k = c .before .before in
     let a = k .before .before .before .args in
     rw
-    (sym (k .before .before .is-spot .ensures) ∙ k .before .if1 .left, is-none (settlementOn (contractsOf (a .s)) (a .c .month)) (sym (k .find .ensures) ∙ c .enum-told2 .given .1))
+    (sym (k .before .before .is-spot .ensures) ∙ k .before .if1 .left, is-none (settlementOn (entriesOf (a .s)) (a .c .month)) (sym (k .find .ensures) ∙ c .enum-told2 .given .1))
 
 returns-3 : tie.Need-returns-3
 returns-3 c =
     let k = c .before .before in
     let a = k .before .before .before .args in
     rw
-    (sym (k .before .before .is-spot .ensures) ∙ k .before .if1 .left, is-some (settlementOn (contractsOf (a .s)) (a .c .month)) _ (sym (k .find .ensures) ∙ c .enum-told .given .1))
+    (sym (k .before .before .is-spot .ensures) ∙ k .before .if1 .left, is-some (settlementOn (entriesOf (a .s)) (a .c .month)) _ (sym (k .find .ensures) ∙ c .enum-told .given .1))
 
 pub is-absent-spec : {M : Type 1} → statement M
 is-absent-spec =

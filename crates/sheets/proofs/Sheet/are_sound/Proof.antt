@@ -4,21 +4,24 @@ use Prim.Native.Nat.{_-_, _≤_}
 use mathlib.Core.Path.{_≡_, sym, _∙_}
 use borrow.Author.Tests.{not-true, not-false}
 use lib.ListN.{drop}
-use Rattle.sheets.specs.Sheets.{contractsOf}
-use Rattle.sheets.proofs.Left.{mapped}
-use Rattle.sheets.proofs.InOneLoop.{areSound, soundFrom, sound-start, sound-fails, sound-goes-on, sound-end}
-use Rattle.sheets.proofs.tests.are_sound.Statement.{statement}
-use Rattle.sheets.proofs.tests.are_sound.Tie as tie
+use Rattle.sheets.specs.Sheets.{entriesOf, areSoundContracts}
+use Rattle.sheets.proofs.Rest.{mapped}
+use Rattle.sheets.proofs.InOneLoop.{soundFrom, sound-start, sound-fails, sound-goes-on, sound-end}
+use Rattle.sheets.proofs.Sheet.are_sound.Statement.{statement}
+use Rattle.sheets.proofs.Sheet.are_sound.Tie as tie
 
 abbrev Inv-loop : tie.InvT-loop
 Inv-loop product s tick n from₀ i₀ from i =
-    (i ≤ n) × (areSound product (contractsOf s) ≡ soundFrom product from (drop i (contractsOf s)))
+    (i ≤ n) × (areSoundContracts product (entriesOf s) ≡ soundFrom product from (drop i (entriesOf s)))
 
 abbrev μ-loop : tie.MeasureT-loop
 μ-loop product s tick n from₀ i₀ from i = n - i
 
 tick-requires : tie.Need-tick-requires Inv-loop μ-loop
 tick-requires c κs = search needs
+
+reach-requires : tie.Need-reach-requires Inv-loop μ-loop
+reach-requires c κs = search needs
 
 loop-holds : tie.Need-loop-holds Inv-loop μ-loop
 loop-holds c = (omega arith, sound-start _ _)
@@ -35,10 +38,10 @@ is-sound-contract-requires c κs = search needs
 returns : tie.Need-returns Inv-loop μ-loop
 returns c =
     let k = c .before .before .before .before in
-    let no = sym (rw (k .before .tick .ensures) at (c .before .is-sound-contract .ensures)) ∙ not-true _ (c .if1 .taken) in
+    let no = sym (rw (k .before .before .tick .ensures) at (c .before .is-sound-contract .ensures)) ∙ not-true _ (c .if1 .taken) in
     sym
     (k .loop .inv .1
-    ∙ sound-fails (k .before .before .args .t2) (k .loop .i) (search mapped) (omega arith) (omega arith) _ _ no)
+    ∙ sound-fails (k .before .before .before .args .t1) (k .loop .i) _ (search mapped) (k .before .reach .ensures) _ _ (omega arith) no)
 
 cast-from : tie.Need-cast-from Inv-loop μ-loop
 cast-from c = search needs
@@ -56,16 +59,16 @@ loop-again : tie.Need-loop-again Inv-loop μ-loop
 loop-again c =
     let j = c .before in
     let k = j .before .before .before .before in
-    let yes = sym (rw (k .before .tick .ensures) at (j .before .is-sound-contract .ensures)) ∙ not-false _ (j .if1 .left) in (
+    let yes = sym (rw (k .before .before .tick .ensures) at (j .before .is-sound-contract .ensures)) ∙ not-false _ (j .if1 .left) in (
       omega arith,
       k .loop .inv .1
-          ∙ sound-goes-on (k .before .before .args .t2) (k .loop .i) (search mapped) (omega arith) (omega arith) _ _ yes,
+          ∙ sound-goes-on (k .before .before .before .args .t1) (k .loop .i) _ (search mapped) (k .before .reach .ensures) _ _ (omega arith) yes,
     )
 
 returns-2 : tie.Need-returns-2 Inv-loop μ-loop
 returns-2 c =
     let k = c .before in
-    sym (k .loop .inv .1 ∙ sound-end (k .before .before .args .t2) (k .loop .i) (omega arith) (omega arith) _ _)
+    sym (k .loop .inv .1 ∙ sound-end (k .before .before .before .args .t1) (k .loop .i) _ (search mapped) (k .before .reach .ensures) _ _ (omega arith))
 
 pub are-sound-spec : {M : Type 1} → statement M
 are-sound-spec =
@@ -74,6 +77,7 @@ are-sound-spec =
     Inv-loop
     μ-loop
     tick-requires
+    reach-requires
     loop-holds
     mul-c
     element-copy-out-c

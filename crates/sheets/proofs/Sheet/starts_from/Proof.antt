@@ -6,20 +6,21 @@ use borrow.Author.Tests.{lt-leb, le-leb}
 use lib.Dec.{leb}
 use lib.ListN.{drop}
 use Rattle.grain.specs.Lists.{every}
-use Rattle.sheets.specs.Sheets.{contractsOf, monthsOf}
-use Rattle.sheets.proofs.Left.{mapped, every-fails, every-goes-on, every-end}
-use Rattle.sheets.proofs.tests.starts_from.Statement.{statement}
-use Rattle.sheets.proofs.tests.starts_from.Tie as tie
-use Rattle.sheets.proofs.tests.starts_from.Reads as reads
-use Rattle.sheets.proofs.tests.starts_from.Lts as lts
+use Rattle.sheets.specs.Sheets.{entriesOf, monthsOf}
+use Rattle.sheets.proofs.Rest.{mapped, every-fails, every-goes-on, every-end}
+use Rattle.sheets.proofs.Sheet.starts_from.Statement.{statement}
+use Rattle.sheets.proofs.Sheet.starts_from.Tie as tie
 
 abbrev Inv-loop : tie.InvT-loop
 Inv-loop month s n i₀ i =
     (i ≤ n)
-    × (every (leb month) (monthsOf (contractsOf s)) ≡ every (leb month) (monthsOf (drop i (contractsOf s))))
+    × (every (leb month) (monthsOf (entriesOf s)) ≡ every (leb month) (monthsOf (drop i (entriesOf s))))
 
 abbrev μ-loop : tie.MeasureT-loop
 μ-loop month s n i₀ i = n - i
+
+reach-requires : tie.Need-reach-requires Inv-loop μ-loop
+reach-requires c κs = search needs
 
 loop-holds : tie.Need-loop-holds Inv-loop μ-loop
 loop-holds c = search needs
@@ -35,7 +36,7 @@ returns c =
     let k = c .before .before .before .before in
     sym
     (k .loop .inv .1
-    ∙ every-fails (k .before .args .t2) (k .loop .i) (search mapped) (omega arith) (omega arith) _ (λ c. c .month)
+    ∙ every-fails (k .before .before .args .t1) (k .loop .i) _ (search mapped) (k .before .reach .ensures) _ (λ c. c .month) (omega arith)
     (lt-leb _ _ (c .if1 .taken)))
 
 add-i : tie.Need-add-i Inv-loop μ-loop
@@ -49,14 +50,14 @@ loop-again c =
     let k = c .before .before .before .before in (
       omega arith,
       k .loop .inv .1
-          ∙ every-goes-on (k .before .args .t2) (k .loop .i) (search mapped) (omega arith) (omega arith) _ (λ c. c .month)
+          ∙ every-goes-on (k .before .before .args .t1) (k .loop .i) _ (search mapped) (k .before .reach .ensures) _ (λ c. c .month) (omega arith)
           (le-leb _ _ (c .if1 .left)),
     )
 
 returns-2 : tie.Need-returns-2 Inv-loop μ-loop
 returns-2 c =
     let k = c .before in
-    sym (k .loop .inv .1 ∙ every-end (k .before .args .t2) (k .loop .i) (omega arith) (omega arith) _ (λ c. c .month))
+    sym (k .loop .inv .1 ∙ every-end (k .before .before .args .t1) (k .loop .i) _ (search mapped) (k .before .reach .ensures) _ (λ c. c .month) (omega arith))
 
 pub starts-from-spec : {M : Type 1} → statement M
 starts-from-spec =
@@ -64,6 +65,7 @@ starts-from-spec =
     (tie.spec
     Inv-loop
     μ-loop
+    reach-requires
     loop-holds
     mul-c
     element-copy-out-c

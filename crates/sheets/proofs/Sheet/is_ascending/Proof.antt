@@ -5,18 +5,19 @@ use mathlib.Core.Path.{_≡_, sym, _∙_}
 use borrow.Author.Tests.{lt-ltb, le-ltb}
 use lib.ListN.{drop}
 use Rattle.grain.specs.Lists.{isAscending}
-use Rattle.sheets.specs.Sheets.{contractsOf, monthsOf}
-use Rattle.sheets.proofs.Left.{mapped, ascending-next, ascending-end}
-use Rattle.sheets.proofs.tests.is_ascending.Statement.{statement}
-use Rattle.sheets.proofs.tests.is_ascending.Tie as tie
-use Rattle.sheets.proofs.tests.is_ascending.Reads as reads
-use Rattle.sheets.proofs.tests.is_ascending.Lts as lts
+use Rattle.sheets.specs.Sheets.{entriesOf, monthsOf}
+use Rattle.sheets.proofs.Rest.{mapped, ascending-next, ascending-end}
+use Rattle.sheets.proofs.Sheet.is_ascending.Statement.{statement}
+use Rattle.sheets.proofs.Sheet.is_ascending.Tie as tie
 
 abbrev Inv-loop : tie.InvT-loop
-Inv-loop s n i₀ i = (i ≤ n) × (isAscending (monthsOf (contractsOf s)) ≡ isAscending (monthsOf (drop i (contractsOf s))))
+Inv-loop s n i₀ i = (i ≤ n) × (isAscending (monthsOf (entriesOf s)) ≡ isAscending (monthsOf (drop i (entriesOf s))))
 
 abbrev μ-loop : tie.MeasureT-loop
 μ-loop s n i₀ i = n - i
+
+reach-requires : tie.Need-reach-requires Inv-loop μ-loop
+reach-requires c κs = search needs
 
 loop-holds : tie.Need-loop-holds Inv-loop μ-loop
 loop-holds c = search needs
@@ -44,7 +45,7 @@ returns c =
     let k = c .before .before .before .before .before .before in
     sym
     (k .loop .inv .1
-    ∙ ascending-next (k .before .args .t1) (k .loop .i) (search mapped) (omega arith) (omega arith)
+    ∙ ascending-next (k .before .before .args .t1) (k .loop .i) _ (search mapped) (k .before .reach .ensures) (omega arith)
     ∙ rw (le-ltb _ _ (c .if1 .taken)))
 
 add-i : tie.Need-add-i Inv-loop μ-loop
@@ -58,14 +59,14 @@ loop-again c =
     let k = c .before .before .before .before .before .before in (
       omega arith,
       k .loop .inv .1
-          ∙ ascending-next (k .before .args .t1) (k .loop .i) (search mapped) (omega arith) (omega arith)
+          ∙ ascending-next (k .before .before .args .t1) (k .loop .i) _ (search mapped) (k .before .reach .ensures) (omega arith)
           ∙ rw (lt-ltb _ _ (c .if1 .left)),
     )
 
 returns-2 : tie.Need-returns-2 Inv-loop μ-loop
 returns-2 c =
     let k = c .before in
-    sym (k .loop .inv .1 ∙ ascending-end (k .before .args .t1) (k .loop .i) (search mapped) (omega arith) (omega arith))
+    sym (k .loop .inv .1 ∙ ascending-end (k .before .before .args .t1) (k .loop .i) _ (search mapped) (k .before .reach .ensures) (omega arith))
 
 pub is-ascending-spec : {M : Type 1} → statement M
 is-ascending-spec =
@@ -73,6 +74,7 @@ is-ascending-spec =
     (tie.spec
     Inv-loop
     μ-loop
+    reach-requires
     loop-holds
     add-loop
     mul-c

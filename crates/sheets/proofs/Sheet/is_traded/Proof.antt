@@ -6,21 +6,21 @@ use borrow.Author.Tests.{not-true, not-false}
 use Rattle.grain.specs.Products.{isTraded}
 use lib.ListN.{drop}
 use Rattle.grain.specs.Lists.{every}
-use Rattle.sheets.specs.Sheets.{contractsOf, monthsOf}
-use Rattle.sheets.proofs.Left.{mapped, every-fails, every-goes-on, every-end}
-use Rattle.sheets.proofs.tests.are_traded.Statement.{statement}
-use Rattle.sheets.proofs.tests.are_traded.Tie as tie
-use Rattle.sheets.proofs.tests.are_traded.Reads as reads
-use Rattle.sheets.proofs.tests.are_traded.Lts as lts
-use Rattle.grain.proofs.is_traded.Reads as is-traded-reads
+use Rattle.sheets.specs.Sheets.{entriesOf, monthsOf}
+use Rattle.sheets.proofs.Rest.{mapped, every-fails, every-goes-on, every-end}
+use Rattle.sheets.proofs.Sheet.is_traded.Statement.{statement}
+use Rattle.sheets.proofs.Sheet.is_traded.Tie as tie
 
 abbrev Inv-loop : tie.InvT-loop
 Inv-loop product s n i₀ i =
     (i ≤ n)
-    × (every (isTraded product) (monthsOf (contractsOf s)) ≡ every (isTraded product) (monthsOf (drop i (contractsOf s))))
+    × (every (isTraded product) (monthsOf (entriesOf s)) ≡ every (isTraded product) (monthsOf (drop i (entriesOf s))))
 
 abbrev μ-loop : tie.MeasureT-loop
 μ-loop product s n i₀ i = n - i
+
+reach-requires : tie.Need-reach-requires Inv-loop μ-loop
+reach-requires c κs = search needs
 
 loop-holds : tie.Need-loop-holds Inv-loop μ-loop
 loop-holds c = search needs
@@ -40,7 +40,7 @@ returns c =
     let no = sym (c .before .is-traded .ensures) ∙ not-true _ (c .if1 .taken) in
     sym
     (k .loop .inv .1
-    ∙ every-fails (k .before .args .t2) (k .loop .i) (search mapped) (omega arith) (omega arith) _ (λ c. c .month) no)
+    ∙ every-fails (k .before .before .args .t1) (k .loop .i) _ (search mapped) (k .before .reach .ensures) _ (λ c. c .month) (omega arith) no)
 
 add-i : tie.Need-add-i Inv-loop μ-loop
 add-i c = search needs
@@ -54,20 +54,21 @@ loop-again c =
     let yes = sym (c .before .is-traded .ensures) ∙ not-false _ (c .if1 .left) in (
       omega arith,
       k .loop .inv .1
-          ∙ every-goes-on (k .before .args .t2) (k .loop .i) (search mapped) (omega arith) (omega arith) _ (λ c. c .month) yes,
+          ∙ every-goes-on (k .before .before .args .t1) (k .loop .i) _ (search mapped) (k .before .reach .ensures) _ (λ c. c .month) (omega arith) yes,
     )
 
 returns-2 : tie.Need-returns-2 Inv-loop μ-loop
 returns-2 c =
     let k = c .before in
-    sym (k .loop .inv .1 ∙ every-end (k .before .args .t2) (k .loop .i) (omega arith) (omega arith) _ (λ c. c .month))
+    sym (k .loop .inv .1 ∙ every-end (k .before .before .args .t1) (k .loop .i) _ (search mapped) (k .before .reach .ensures) _ (λ c. c .month) (omega arith))
 
-pub are-traded-spec : {M : Type 1} → statement M
-are-traded-spec =
+pub is-traded-spec : {M : Type 1} → statement M
+is-traded-spec =
     tie.close
     (tie.spec
     Inv-loop
     μ-loop
+    reach-requires
     loop-holds
     mul-c
     element-copy-out-c

@@ -6,21 +6,24 @@ use borrow.Author.Tests.{not-true, not-false}
 use Rattle.grain.specs.Prices.{isSettlement}
 use lib.ListN.{drop}
 use Rattle.grain.specs.Lists.{every}
-use Rattle.sheets.specs.Sheets.{contractsOf, settlementsOf}
-use Rattle.sheets.proofs.Left.{mapped, every-fails, every-goes-on, every-end}
-use Rattle.sheets.proofs.tests.are_settlements.Statement.{statement}
-use Rattle.sheets.proofs.tests.are_settlements.Tie as tie
+use Rattle.sheets.specs.Sheets.{entriesOf, settlementsOf}
+use Rattle.sheets.proofs.Rest.{mapped, every-fails, every-goes-on, every-end}
+use Rattle.sheets.proofs.Sheet.is_settled.Statement.{statement}
+use Rattle.sheets.proofs.Sheet.is_settled.Tie as tie
 
 abbrev Inv-loop : tie.InvT-loop
 Inv-loop product s tick n i₀ i =
     (i ≤ n)
-    × (every (isSettlement product) (settlementsOf (contractsOf s)) ≡ every (isSettlement product) (settlementsOf (drop i (contractsOf s))))
+    × (every (isSettlement product) (settlementsOf (entriesOf s)) ≡ every (isSettlement product) (settlementsOf (drop i (entriesOf s))))
 
 abbrev μ-loop : tie.MeasureT-loop
 μ-loop product s tick n i₀ i = n - i
 
 tick-requires : tie.Need-tick-requires Inv-loop μ-loop
 tick-requires c κs = search needs
+
+reach-requires : tie.Need-reach-requires Inv-loop μ-loop
+reach-requires c κs = search needs
 
 loop-holds : tie.Need-loop-holds Inv-loop μ-loop
 loop-holds c = search needs
@@ -37,10 +40,10 @@ is-on-tick-requires c κs = search needs
 returns : tie.Need-returns Inv-loop μ-loop
 returns c =
     let k = c .before .before .before .before in
-    let no = sym (rw (k .before .tick .ensures) at (c .before .is-on-tick .ensures)) ∙ not-true _ (c .if1 .taken) in
+    let no = sym (rw (k .before .before .tick .ensures) at (c .before .is-on-tick .ensures)) ∙ not-true _ (c .if1 .taken) in
     sym
     (k .loop .inv .1
-    ∙ every-fails (k .before .before .args .t2) (k .loop .i) (search mapped) (omega arith) (omega arith) _ (λ c. c .settlement) no)
+    ∙ every-fails (k .before .before .before .args .t1) (k .loop .i) _ (search mapped) (k .before .reach .ensures) _ (λ c. c .settlement) (omega arith) no)
 
 add-i : tie.Need-add-i Inv-loop μ-loop
 add-i c = search needs
@@ -51,24 +54,25 @@ loop-less c = search needs
 loop-again : tie.Need-loop-again Inv-loop μ-loop
 loop-again c =
     let k = c .before .before .before .before in
-    let yes = sym (rw (k .before .tick .ensures) at (c .before .is-on-tick .ensures)) ∙ not-false _ (c .if1 .left) in (
+    let yes = sym (rw (k .before .before .tick .ensures) at (c .before .is-on-tick .ensures)) ∙ not-false _ (c .if1 .left) in (
       omega arith,
       k .loop .inv .1
-          ∙ every-goes-on (k .before .before .args .t2) (k .loop .i) (search mapped) (omega arith) (omega arith) _ (λ c. c .settlement) yes,
+          ∙ every-goes-on (k .before .before .before .args .t1) (k .loop .i) _ (search mapped) (k .before .reach .ensures) _ (λ c. c .settlement) (omega arith) yes,
     )
 
 returns-2 : tie.Need-returns-2 Inv-loop μ-loop
 returns-2 c =
     let k = c .before in
-    sym (k .loop .inv .1 ∙ every-end (k .before .before .args .t2) (k .loop .i) (omega arith) (omega arith) _ (λ c. c .settlement))
+    sym (k .loop .inv .1 ∙ every-end (k .before .before .before .args .t1) (k .loop .i) _ (search mapped) (k .before .reach .ensures) _ (λ c. c .settlement) (omega arith))
 
-pub are-settlements-spec : {M : Type 1} → statement M
-are-settlements-spec =
+pub is-settled-spec : {M : Type 1} → statement M
+is-settled-spec =
     tie.close
     (tie.spec
     Inv-loop
     μ-loop
     tick-requires
+    reach-requires
     loop-holds
     mul-c
     element-copy-out-c

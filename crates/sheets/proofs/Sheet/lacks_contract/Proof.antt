@@ -6,21 +6,21 @@ use lib.ListN.{drop}
 use Rattle.grain.specs.Lists.{any}
 use Rattle.grain.specs.Spot.{isSpot}
 use Rattle.record.specs.Sheet.{isAbsent, lacksContract}
-use Rattle.sheets.specs.Sheets.{contractsOf}
-use Rattle.sheets.proofs.Left.{mapped, any-holds, any-goes-on, any-end}
-use Rattle.sheets.proofs.changes.lacks_contract.Statement.{statement}
-use Rattle.sheets.proofs.changes.lacks_contract.Tie as tie
-use Rattle.sheets.proofs.changes.lacks_contract.Reads as reads
-use Rattle.sheets.proofs.changes.lacks_contract.Lts as lts
-use Rattle.sheets.proofs.changes.is_absent.Reads as is-absent-reads
+use Rattle.sheets.specs.Sheets.{entriesOf}
+use Rattle.sheets.proofs.Rest.{mapped, any-holds, any-goes-on, any-end}
+use Rattle.sheets.proofs.Sheet.lacks_contract.Statement.{statement}
+use Rattle.sheets.proofs.Sheet.lacks_contract.Tie as tie
 
 abbrev Inv-loop : tie.InvT-loop
-Inv-loop today left s last n i₀ i =
-    let test = isAbsent (λ month. isSpot month today left) (contractsOf s) in
-    (i ≤ n) × (any test (contractsOf last) ≡ any test (drop i (contractsOf last)))
+Inv-loop s date last n i₀ i =
+    let test = isAbsent (isSpot date) (entriesOf s) in
+    (i ≤ n) × (any test (entriesOf last) ≡ any test (drop i (entriesOf last)))
 
 abbrev μ-loop : tie.MeasureT-loop
-μ-loop today left s last n i₀ i = n - i
+μ-loop s date last n i₀ i = n - i
+
+reach-requires : tie.Need-reach-requires Inv-loop μ-loop
+reach-requires c κs = search needs
 
 loop-holds : tie.Need-loop-holds Inv-loop μ-loop
 loop-holds c = search needs
@@ -40,7 +40,7 @@ returns c =
     let k = c .before .before .before .before in
     sym
     (k .loop .inv .1
-    ∙ any-holds (k .before .args .t3) (k .loop .i) (search mapped) (omega arith) (omega arith) _ (sym (c .before .is-absent .ensures) ∙ c .if1 .taken))
+    ∙ any-holds (k .before .before .args .t3) (k .loop .i) _ (search mapped) (k .before .reach .ensures) _ (omega arith) (sym (c .before .is-absent .ensures) ∙ c .if1 .taken))
 
 add-i : tie.Need-add-i Inv-loop μ-loop
 add-i c = search needs
@@ -53,14 +53,14 @@ loop-again c =
     let k = c .before .before .before .before in (
       omega arith,
       k .loop .inv .1
-          ∙ any-goes-on (k .before .args .t3) (k .loop .i) (search mapped) (omega arith) (omega arith) _ (sym (c .before .is-absent .ensures) ∙ c .if1 .left),
+          ∙ any-goes-on (k .before .before .args .t3) (k .loop .i) _ (search mapped) (k .before .reach .ensures) _ (omega arith) (sym (c .before .is-absent .ensures) ∙ c .if1 .left),
     )
 
 returns-2 : tie.Need-returns-2 Inv-loop μ-loop
 unfolding lacksContract
 returns-2 c =
     let k = c .before in
-    sym (k .loop .inv .1 ∙ any-end (k .before .args .t3) (k .loop .i) (omega arith) (omega arith) _)
+    sym (k .loop .inv .1 ∙ any-end (k .before .before .args .t3) (k .loop .i) _ (search mapped) (k .before .reach .ensures) _ (omega arith))
 
 pub lacks-contract-spec : {M : Type 1} → statement M
 lacks-contract-spec =
@@ -68,6 +68,7 @@ lacks-contract-spec =
     (tie.spec
     Inv-loop
     μ-loop
+    reach-requires
     loop-holds
     mul-c
     element-copy-out-c

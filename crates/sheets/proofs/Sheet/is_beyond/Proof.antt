@@ -6,21 +6,21 @@ use lib.ListN.{drop}
 use Rattle.grain.specs.Lists.{any}
 use Rattle.grain.specs.Spot.{isSpot}
 use Rattle.record.specs.Sheet.{hasMovedBeyond, isBeyond}
-use Rattle.sheets.specs.Sheets.{contractsOf}
-use Rattle.sheets.proofs.Left.{mapped, any-holds, any-goes-on, any-end}
-use Rattle.sheets.proofs.changes.is_beyond.Statement.{statement}
-use Rattle.sheets.proofs.changes.is_beyond.Tie as tie
-use Rattle.sheets.proofs.changes.is_beyond.Reads as reads
-use Rattle.sheets.proofs.changes.is_beyond.Lts as lts
-use Rattle.sheets.proofs.changes.has_moved_beyond.Reads as has-moved-beyond-reads
+use Rattle.sheets.specs.Sheets.{entriesOf}
+use Rattle.sheets.proofs.Rest.{mapped, any-holds, any-goes-on, any-end}
+use Rattle.sheets.proofs.Sheet.is_beyond.Statement.{statement}
+use Rattle.sheets.proofs.Sheet.is_beyond.Tie as tie
 
 abbrev Inv-loop : tie.InvT-loop
-Inv-loop today left limit last s n i₀ i =
-    let test = hasMovedBeyond (λ month. isSpot month today left) limit (contractsOf last) in
-    (i ≤ n) × (any test (contractsOf s) ≡ any test (drop i (contractsOf s)))
+Inv-loop date limit last s n i₀ i =
+    let test = hasMovedBeyond (isSpot date) limit (entriesOf last) in
+    (i ≤ n) × (any test (entriesOf s) ≡ any test (drop i (entriesOf s)))
 
 abbrev μ-loop : tie.MeasureT-loop
-μ-loop today left limit last s n i₀ i = n - i
+μ-loop date limit last s n i₀ i = n - i
+
+reach-requires : tie.Need-reach-requires Inv-loop μ-loop
+reach-requires c κs = search needs
 
 loop-holds : tie.Need-loop-holds Inv-loop μ-loop
 loop-holds c = search needs
@@ -40,7 +40,7 @@ returns c =
     let k = c .before .before .before .before in
     sym
     (k .loop .inv .1
-    ∙ any-holds (k .before .args .t5) (k .loop .i) (search mapped) (omega arith) (omega arith) _ (sym (c .before .has-moved-beyond .ensures) ∙ c .if1 .taken))
+    ∙ any-holds (k .before .before .args .t1) (k .loop .i) _ (search mapped) (k .before .reach .ensures) _ (omega arith) (sym (c .before .has-moved-beyond .ensures) ∙ c .if1 .taken))
 
 add-i : tie.Need-add-i Inv-loop μ-loop
 add-i c = search needs
@@ -53,14 +53,14 @@ loop-again c =
     let k = c .before .before .before .before in (
       omega arith,
       k .loop .inv .1
-          ∙ any-goes-on (k .before .args .t5) (k .loop .i) (search mapped) (omega arith) (omega arith) _ (sym (c .before .has-moved-beyond .ensures) ∙ c .if1 .left),
+          ∙ any-goes-on (k .before .before .args .t1) (k .loop .i) _ (search mapped) (k .before .reach .ensures) _ (omega arith) (sym (c .before .has-moved-beyond .ensures) ∙ c .if1 .left),
     )
 
 returns-2 : tie.Need-returns-2 Inv-loop μ-loop
 unfolding isBeyond
 returns-2 c =
     let k = c .before in
-    sym (k .loop .inv .1 ∙ any-end (k .before .args .t5) (k .loop .i) (omega arith) (omega arith) _)
+    sym (k .loop .inv .1 ∙ any-end (k .before .before .args .t1) (k .loop .i) _ (search mapped) (k .before .reach .ensures) _ (omega arith))
 
 pub is-beyond-spec : {M : Type 1} → statement M
 is-beyond-spec =
@@ -68,6 +68,7 @@ is-beyond-spec =
     (tie.spec
     Inv-loop
     μ-loop
+    reach-requires
     loop-holds
     mul-c
     element-copy-out-c
