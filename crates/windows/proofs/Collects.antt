@@ -1,14 +1,25 @@
 -- One settlement more in a window with room, and in a full one, whose oldest goes first.
-use Prim.Native.Nat.{ℕ, _+_, _-_, _<_}
+use Prim.Native.Nat.{ℕ, _+_, _-_, _<_, _≤_}
 use mathlib.Core.Path.{_≡_, _∙_}
 use mathlib.Core.List.{List, [], _∷_, _++_}
 use mathlib.Core.Option.{some}
 use native.Mathlib.Omega.{arith}
 use lib.ListN.{length, drop, length-append}
 use lib.Seq.{drop-append-le}
+use borrow.Author.Tests.{lt-ltb, le-ltb, lt-leb, le-leb}
 use Rattle.record.specs.Window.{collect}
 use Rattle.windows.specs.declared.Windows.{Windows}
-use Rattle.windows.specs.Windows.{windowOf, Changed}
+use Rattle.windows.specs.Windows.{sizeOf, windowOf, collectedIn, Changed}
+
+module _ (w : Windows) (p v : ℕ) where
+  pub collected-beyond : 8 ≤ p → collectedIn w p v ≡ windowOf w p
+  collected-beyond h = rw (le-ltb p 8 h)
+
+  pub collected-damaged : p < 8 → 45 < sizeOf w p → collectedIn w p v ≡ windowOf w p
+  collected-damaged l h = rw (lt-ltb p 8 l, lt-leb (sizeOf w p) 45 h)
+
+  pub collected-fits : p < 8 → sizeOf w p ≤ 45 → collectedIn w p v ≡ collect (windowOf w p) (some v)
+  collected-fits l h = rw (lt-ltb p 8 l, le-leb (sizeOf w p) 45 h)
 
 pub collect-room : (l : List ℕ) (v : ℕ) → length l < 45 → collect l (some v) ≡ l ++ (v ∷ [])
 collect-room l v h =

@@ -2,9 +2,10 @@
 use Prim.Native.Nat.{ℕ, _+_, _*_, _<_, _≤_}
 use mathlib.Core.Path.{_≡_, refl, sym, ap}
 use mathlib.Core.Bool.{Bool, true, false}
+use mathlib.Core.List.{[]}
 use native.Mathlib.Omega.{arith}
 use lib.Dec.{leb, eqb}
-use lib.ListN.{length, getD, take, drop, length-drop}
+use lib.ListN.{length, getD, take, drop, length-drop, List·getD-eq-default}
 use lib.Seq.{getD-take, getD-drop, length-take-le}
 use borrow.Author.Tests.{leb-true, leb-false, le-leb, lt-leb, ne-eqb}
 use Rattle.windows.specs.declared.Windows.{Windows}
@@ -13,6 +14,13 @@ use Rattle.windows.specs.Windows.{sizeOf, windowOf}
 pub shown : (w : Windows) (p : ℕ) → sizeOf w p ≤ 45 → windowOf w p ≡ take (sizeOf w p) (drop (45 * p) (w .settlements))
 unfolding windowOf
 shown w p l = rw (le-leb (sizeOf w p) 45 l)
+
+-- a number that is no product has no settlements
+pub nothing-beyond : (w : Windows) (p : ℕ) → length (w .sizes) ≡ 8 → 8 ≤ p → windowOf w p ≡ []
+unfolding windowOf
+nothing-beyond w p eight h =
+    let past : length (w .sizes) ≤ p = omega arith in
+    rw (List·getD-eq-default (w .sizes) 0 past)
 
 pub too-long : (w : Windows) (p : ℕ) → 45 < sizeOf w p → length (windowOf w p) ≡ 46
 unfolding windowOf

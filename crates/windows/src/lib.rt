@@ -1,16 +1,14 @@
 // The windows of the eight products: the last 45 collected settlements of each, in one flat array with eight sizes.
-// These functions are exported for the calls on a book; those that ask for a product below 8 and a size of at most 45 say so.
+// Every function here takes any windows and any number for a product; a number that is no product has no settlements.
 ghost use mathlib.Core.Path.{_≡_};
 ghost use mathlib.Core.List.{[], _∷_, _++_};
-ghost use mathlib.Core.Option.{some};
-ghost use Prim.Native.Nat.{ℕ, _<_, _≤_};
+ghost use Prim.Native.Nat.{ℕ, _<_};
 ghost use lib.Dec.{eqb};
 ghost use lib.ListN.{length, drop};
 ghost use Rattle.grain.specs.Lists.{every};
 ghost use Rattle.grain.specs.Prices.{isOnTick};
 ghost use Rattle.grain.specs.Margin.{seasonLimits};
-ghost use Rattle.record.specs.Window.{collect};
-ghost use Rattle.windows.specs.Windows.{sizeOf, windowOf, Changed};
+ghost use Rattle.windows.specs.Windows.{sizeOf, windowOf, collectedIn, Changed};
 use grain::SeasonLimits;
 
 pub struct Windows {
@@ -19,61 +17,82 @@ pub struct Windows {
     pub sizes: [usize; 8],
 }
 
-// Eight windows with no settlement.
-pub fn no_windows() -> Windows
-    ensures { λ r. ⌜ ((p : ℕ) → windowOf r p ≡ []) ⌝ }
-{
-    Windows {
-        settlements: [0; 360],
-        sizes: [0; 8],
+impl Windows {
+    // Eight windows with no settlement.
+    pub fn none() -> Windows
+        ensures { λ r. ⌜ ((p : ℕ) → windowOf r p ≡ []) ⌝ }
+    {
+        Windows {
+            settlements: [0; 360],
+            sizes: [0; 8],
+        }
     }
-}
 
-// A window with no settlement; what stood in its places is no part of it any more.
-pub fn emptied(w: Windows, p: usize) -> Windows
-    requires { ⌜ p < 8 ⌝ }
-    ensures { λ r. ⌜ Changed w p [] r ⌝ }
-{
-    let mut v = w;
-    v.sizes[p] = 0;
-    v
-}
-
-// A settlement at the next place of a window that has one.
-fn extended(w: Windows, p: usize, settlement: u32) -> Windows
-    requires { ⌜ (p < 8) × (sizeOf w p < 45) ⌝ }
-    ensures { λ r. ⌜ Changed w p (windowOf w p ++ (settlement ∷ [])) r ⌝ }
-{
-    let n = w.sizes[p];
-    let mut v = w;
-    v.settlements[45 * p + n] = settlement;
-    v.sizes[p] = n + 1;
-    v
-}
-
-// The oldest of a full window goes: the 44 others move down one place.
-fn without_oldest(w: Windows, p: usize) -> Windows
-    requires { ⌜ (p < 8) × (sizeOf w p ≡ 45) ⌝ }
-    ensures { λ r. ⌜ Changed w p (drop 1 (windowOf w p)) r × (sizeOf r p ≡ 44) ⌝ }
-{
-    let at = 45 * p;
-    let mut v = w;
-    for i in 0..44usize {
-        v.settlements[at + i] = v.settlements[at + i + 1];
+    // A window with no settlement, whatever its size was; what stood in its places is no part of it any more.
+    pub fn emptied(self, p: usize) -> Windows
+        ensures { λ r. ⌜ Changed self p [] r ⌝ }
+    {
+        if 8 <= p {
+            return self;
+        }
+        let mut w = self;
+        w.sizes[p] = 0;
+        w
     }
-    v.sizes[p] = 44;
-    v
-}
 
-// One settlement more, after which the window has the last 45.
-pub fn collected(w: Windows, p: usize, settlement: u32) -> Windows
-    requires { ⌜ (p < 8) × (sizeOf w p ≤ 45) ⌝ }
-    ensures { λ r. ⌜ Changed w p (collect (windowOf w p) (some settlement)) r ⌝ }
-{
-    if w.sizes[p] < 45 {
-        return extended(w, p, settlement);
+    // A settlement at the next place of a window that has one.
+    fn extended(self, p: usize, settlement: u32) -> Windows
+        requires { ⌜ (p < 8) × (sizeOf self p < 45) ⌝ }
+        ensures { λ r. ⌜ Changed self p (windowOf self p ++ (settlement ∷ [])) r ⌝ }
+    {
+        let n = self.sizes[p];
+        let mut w = self;
+        w.settlements[45 * p + n] = settlement;
+        w.sizes[p] = n + 1;
+        w
     }
-    extended(without_oldest(w, p), p, settlement)
+
+    // The oldest of a full window goes: the 44 others move down one place.
+    fn without_oldest(self, p: usize) -> Windows
+        requires { ⌜ (p < 8) × (sizeOf self p ≡ 45) ⌝ }
+        ensures { λ r. ⌜ Changed self p (drop 1 (windowOf self p)) r × (sizeOf r p ≡ 44) ⌝ }
+    {
+        let at = 45 * p;
+        let mut w = self;
+        for i in 0..44usize {
+            w.settlements[at + i] = w.settlements[at + i + 1];
+        }
+        w.sizes[p] = 44;
+        w
+    }
+
+    // One settlement more, after which the window has the last 45; one of a damaged size stays as it is.
+    pub fn collected(self, p: usize, settlement: u32) -> Windows
+        ensures { λ r. ⌜ Changed self p (collectedIn self p settlement) r ⌝ }
+    {
+        if 8 <= p {
+            return self;
+        }
+        let n = self.sizes[p];
+        if 45 < n {
+            return self;
+        }
+        if n < 45 {
+            return self.extended(p, settlement);
+        }
+        let w = self.without_oldest(p);
+        w.extended(p, settlement)
+    }
+
+    // Whether the window has all its 45 settlements.
+    pub fn is_full(self, p: usize) -> bool
+        ensures { λ r. ⌜ r ≡ eqb (length (windowOf self p)) 45 ⌝ }
+    {
+        if 8 <= p {
+            return false;
+        }
+        self.sizes[p] == 45
+    }
 }
 
 // Whether each settlement is in range and on the tick. It goes through to the end, so that the compiler can test several at a time.
@@ -87,14 +106,6 @@ pub fn are_on_tick(tick: u32, settlements: &[u32]) -> bool
         i += 1;
     }
     all
-}
-
-// Whether the window has all its 45 settlements.
-pub fn is_full(w: Windows, p: usize) -> bool
-    requires { ⌜ p < 8 ⌝ }
-    ensures { λ r. ⌜ r ≡ eqb (length (windowOf w p)) 45 ⌝ }
-{
-    w.sizes[p] == 45
 }
 
 // The season limits that a full window gives.

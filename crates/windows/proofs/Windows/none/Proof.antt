@@ -2,8 +2,8 @@ use Prim.Native.Nat.{ℕ, zero, suc}
 use mathlib.Core.Path.{_≡_, refl}
 use lib.ListN.{getD, replicate}
 use Rattle.windows.specs.Windows.{windowOf}
-use Rattle.windows.proofs.no_windows.Statement.{statement}
-use Rattle.windows.proofs.no_windows.Tie as tie
+use Rattle.windows.proofs.Windows.none.Statement.{statement}
+use Rattle.windows.proofs.Windows.none.Tie as tie
 
 zeros-at : (n i : ℕ) → _≡_ {A = ℕ} (getD (replicate n 0) i 0) 0
 zeros-at zero i = refl
@@ -14,5 +14,5 @@ returns : tie.Need-returns
 unfolding windowOf
 returns c p = rw (zeros-at 8 p)
 
-pub no-windows-spec : {M : Type 1} → statement M
-no-windows-spec = tie.close (tie.spec returns)
+pub none-spec : {M : Type 1} → statement M
+none-spec = tie.close (tie.spec returns)
