@@ -1,10 +1,11 @@
 -- The group of a product, by the table; its level, and the limit that it gives.
-use Prim.Native.Nat.{ℕ, _<_}
+use Prim.Native.Nat.{ℕ, _<_, _≤_}
 use mathlib.Core.Path.{_≡_, refl, _∙_, ap}
 use mathlib.Core.List.{List, [], _∷_}
+use native.Mathlib.Omega.{arith}
 use lib.Dec.{ltb, eqb}
 use lib.ListN.{getD}
-use borrow.Author.Tests.{ltb-true, eqb-true}
+use borrow.Author.Tests.{ltb-true, eqb-true, ne-eqb}
 use Rattle.grain.proofs.Below.{below}
 use Rattle.record.specs.State.{Level, Group, groupTable, groupOf, groupAt, productIn, limitAt, limitIn}
 use Rattle.book.specs.declared.Book.{Book}
@@ -22,6 +23,17 @@ group-number p l = eqb-true _ _ (below 8 (λ (p : ℕ). eqb (getD groupNumbers p
 pub group-small : (p : ℕ) → p < 8 → groupOf p < 6
 unfolding groupTable
 group-small p l = ltb-true _ _ (below 8 (λ (p : ℕ). ltb (groupOf p) 6) refl p l)
+
+-- no group has a number that is no product, and it has no limit
+pub no-group : (p : ℕ) → 8 ≤ p → groupOf p ≡ 6
+unfolding groupTable
+no-group p h =
+    rw
+    (ne-eqb p 0 (omega arith), ne-eqb p 1 (omega arith), ne-eqb p 2 (omega arith), ne-eqb p 3 (omega arith), ne-eqb p 4 (omega arith), ne-eqb p 5 (omega arith), ne-eqb p 6 (omega arith), ne-eqb p 7 (omega arith))
+
+pub no-limit : (b : Book) (p : ℕ) → 8 ≤ p → limitIn (groupAt (view b) (groupOf p)) p ≡ 0
+unfolding view groupTable
+no-limit b p h = rw (no-group p h)
 
 pub level-is : (b : Book) (p : ℕ) → p < 8 → groupAt (view b) (groupOf p) .level ≡ levelOf (standingIn b (groupOf p) .expanded)
 unfolding viewGroup

@@ -8,7 +8,7 @@ use borrow.Author.Tests.{eqb-true}
 use Rattle.record.specs.Choices.{isSome}
 use Rattle.record.specs.State.{sheetOr}
 use Rattle.sheets.specs.declared.Sheet.{Sheet}
-use Rattle.sheets.specs.Sheets.{contractsOf, sheetIn}
+use Rattle.sheets.specs.Sheets.{entriesOf, contractsOf, sheetIn}
 
 pub sheet-is-in : (s : Sheet) → isSome (sheetIn s) ≡ not (eqb (s .len) 0)
 unfolding sheetIn
@@ -18,8 +18,8 @@ sheet-is-in s = go (eqb (s .len) 0)
     go true = refl
     go false = refl
 
-none-listed : (s : Sheet) → s .len ≡ 0 → contractsOf s ≡ []
-unfolding contractsOf
+pub none-listed : (s : Sheet) → s .len ≡ 0 → contractsOf s ≡ []
+unfolding contractsOf entriesOf
 none-listed s e = rw e
 
 -- the contracts of a sheet in the book; where none is in there are none

@@ -23,6 +23,7 @@ use Rattle.book.specs.declared.Book.{Book}
 use Rattle.book.specs.Book.{todayIn, lastIn, isNoDay, openedOf, viewProduct, viewCommon, view}
 use Rattle.book.specs.Soundness.{eight}
 use Rattle.book.proofs.Numbers.{eight-counts, each-passes}
+use Rattle.book.proofs.SheetsIn.{none-listed}
 use Rattle.book.proofs.Shown.{sound-is}
 
 -- a sound sheet
@@ -39,17 +40,13 @@ sheet-fits p s t = go (leb (s .len) 16) refl
         let z : _≡_ {A = Bool} false true = sym (beyond-unsound p s (leb-false _ _ e)) ∙ t in
         leb-true (s .len) 16 cc
 
-none-listed : (s : Sheet) → s .len ≡ 0 → isAscending (monthsOf (contractsOf s)) ≡ true
-unfolding contractsOf isAscending
-none-listed s e = rw e
-
 sheet-ascending : (p : ℕ) (s : Sheet) → isSoundSheet p (sheetIn s) ≡ true → isAscending (monthsOf (contractsOf s)) ≡ true
-unfolding isSoundSheet sheetIn
+unfolding isSoundSheet sheetIn isAscending
 sheet-ascending p s t = go (eqb (s .len) 0) refl t
   where
     go : (b : Bool) → eqb (s .len) 0 ≡ b → isSoundSheet p (cond b none (some (contractsOf s))) ≡ true
         → isAscending (monthsOf (contractsOf s)) ≡ true
-    go true e t = none-listed s (eqb-true _ _ e)
+    go true e t = rw (none-listed s (eqb-true _ _ e))
     go false e t = and-right _ _ (and-left _ _ (and-left _ _ t))
 
 -- a sound window

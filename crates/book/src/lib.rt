@@ -12,10 +12,8 @@ pub use calendar::contract_month;
 pub use founding::Founding;
 pub use founding::found;
 pub use limits::group_of;
-pub use limits::limit_of;
 pub use soundness::are_all_in;
 pub use soundness::is_no_day;
-pub use soundness::is_sound;
 pub use soundness::is_true_day;
 
 // A product's limits: I and E of the rule.

@@ -75,10 +75,10 @@ fn is_sound_product(product: u32, limit: Limit, today: Sheet, last: Sheet) -> bo
     if !is_sound_limit(product, limit) {
         return false;
     }
-    if !sheets::is_sound(product, today) {
+    if !today.is_sound(product) {
         return false;
     }
-    sheets::is_sound(product, last)
+    last.is_sound(product)
 }
 
 fn are_products_sound(b: Book) -> bool
@@ -188,28 +188,30 @@ fn is_last_sound(d: Day, last: [Sheet; 8]) -> bool
     are_all_in(last)
 }
 
-pub fn is_sound(b: Book) -> bool
-    ensures { λ r. ⌜ r ≡ isSound (view b) ⌝ }
-{
-    let day = b.day;
-    if !is_sound_date(day, b.trading) {
-        return false;
+impl Book {
+    pub fn is_sound(self) -> bool
+        ensures { λ r. ⌜ r ≡ isSound (view self) ⌝ }
+    {
+        let day = self.day;
+        if !is_sound_date(day, self.trading) {
+            return false;
+        }
+        let standings = self.standings;
+        if !are_marks_sound(standings) {
+            return false;
+        }
+        if !are_products_sound(self) {
+            return false;
+        }
+        let w = self.windows;
+        if !are_windows_sound(w) {
+            return false;
+        }
+        let today = self.today;
+        if !is_phase_sound(self.trading, today) {
+            return false;
+        }
+        let last = self.last;
+        is_last_sound(day, last)
     }
-    let standings = b.standings;
-    if !are_marks_sound(standings) {
-        return false;
-    }
-    if !are_products_sound(b) {
-        return false;
-    }
-    let w = b.windows;
-    if !are_windows_sound(w) {
-        return false;
-    }
-    let today = b.today;
-    if !is_phase_sound(b.trading, today) {
-        return false;
-    }
-    let last = b.last;
-    is_last_sound(day, last)
 }

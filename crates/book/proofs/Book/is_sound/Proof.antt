@@ -3,8 +3,8 @@ use mathlib.Core.Path.{sym, _∙_}
 use borrow.Author.Tests.{not-true, not-false}
 use Rattle.grain.specs.Lists.{_and_}
 use Rattle.book.proofs.Shown.{sound-tests}
-use Rattle.book.proofs.soundness.is_sound.Statement.{statement}
-use Rattle.book.proofs.soundness.is_sound.Tie as tie
+use Rattle.book.proofs.Book.is_sound.Statement.{statement}
+use Rattle.book.proofs.Book.is_sound.Tie as tie
 
 is-sound-date-requires : tie.Need-is-sound-date-requires
 is-sound-date-requires c κs = search needs
@@ -13,7 +13,7 @@ returns : tie.Need-returns
 unfolding _and_
 returns c =
     rw
-    (sound-tests (c .before .before .before .args .b), sym (c .before .is-sound-date .ensures) ∙ not-true _ (c .if1 .taken))
+    (sound-tests (c .before .before .before .args .self), sym (c .before .is-sound-date .ensures) ∙ not-true _ (c .if1 .taken))
 
 are-marks-sound-requires : tie.Need-are-marks-sound-requires
 are-marks-sound-requires c κs = search needs
@@ -23,7 +23,7 @@ unfolding _and_
 returns-2 c =
     let h = c .before .before .before in
     rw
-    (sound-tests (h .before .before .before .args .b), sym (h .before .is-sound-date .ensures) ∙ not-false _ (h .if1 .left), sym (c .before .are-marks-sound .ensures) ∙ not-true _ (c .if2 .taken))
+    (sound-tests (h .before .before .before .args .self), sym (h .before .is-sound-date .ensures) ∙ not-false _ (h .if1 .left), sym (c .before .are-marks-sound .ensures) ∙ not-true _ (c .if2 .taken))
 
 are-products-sound-requires : tie.Need-are-products-sound-requires
 are-products-sound-requires c κs = search needs
@@ -34,7 +34,7 @@ returns-3 c =
     let i = c .before .before in
     let h = i .before .before .before in
     rw
-    (sound-tests (h .before .before .before .args .b), sym (h .before .is-sound-date .ensures) ∙ not-false _ (h .if1 .left), sym (i .before .are-marks-sound .ensures) ∙ not-false _ (i .if2 .left), sym (c .before .are-products-sound .ensures) ∙ not-true _ (c .if3 .taken))
+    (sound-tests (h .before .before .before .args .self), sym (h .before .is-sound-date .ensures) ∙ not-false _ (h .if1 .left), sym (i .before .are-marks-sound .ensures) ∙ not-false _ (i .if2 .left), sym (c .before .are-products-sound .ensures) ∙ not-true _ (c .if3 .taken))
 
 are-windows-sound-requires : tie.Need-are-windows-sound-requires
 are-windows-sound-requires c κs = search needs
@@ -46,7 +46,7 @@ returns-4 c =
     let i = j .before .before in
     let h = i .before .before .before in
     rw
-    (sound-tests (h .before .before .before .args .b), sym (h .before .is-sound-date .ensures) ∙ not-false _ (h .if1 .left), sym (i .before .are-marks-sound .ensures) ∙ not-false _ (i .if2 .left), sym (j .before .are-products-sound .ensures) ∙ not-false _ (j .if3 .left), sym (c .before .are-windows-sound .ensures) ∙ not-true _ (c .if4 .taken))
+    (sound-tests (h .before .before .before .args .self), sym (h .before .is-sound-date .ensures) ∙ not-false _ (h .if1 .left), sym (i .before .are-marks-sound .ensures) ∙ not-false _ (i .if2 .left), sym (j .before .are-products-sound .ensures) ∙ not-false _ (j .if3 .left), sym (c .before .are-windows-sound .ensures) ∙ not-true _ (c .if4 .taken))
 
 is-phase-sound-requires : tie.Need-is-phase-sound-requires
 is-phase-sound-requires c κs = search needs
@@ -59,7 +59,7 @@ returns-5 c =
     let i = j .before .before in
     let h = i .before .before .before in
     rw
-    (sound-tests (h .before .before .before .args .b), sym (h .before .is-sound-date .ensures) ∙ not-false _ (h .if1 .left), sym (i .before .are-marks-sound .ensures) ∙ not-false _ (i .if2 .left), sym (j .before .are-products-sound .ensures) ∙ not-false _ (j .if3 .left), sym (k .before .are-windows-sound .ensures) ∙ not-false _ (k .if4 .left), sym (c .before .is-phase-sound .ensures) ∙ not-true _ (c .if5 .taken))
+    (sound-tests (h .before .before .before .args .self), sym (h .before .is-sound-date .ensures) ∙ not-false _ (h .if1 .left), sym (i .before .are-marks-sound .ensures) ∙ not-false _ (i .if2 .left), sym (j .before .are-products-sound .ensures) ∙ not-false _ (j .if3 .left), sym (k .before .are-windows-sound .ensures) ∙ not-false _ (k .if4 .left), sym (c .before .is-phase-sound .ensures) ∙ not-true _ (c .if5 .taken))
 
 is-last-sound-requires : tie.Need-is-last-sound-requires
 is-last-sound-requires c κs = search needs
@@ -73,7 +73,7 @@ returns-6 c =
     let i = j .before .before in
     let h = i .before .before .before in
     rw
-    (sound-tests (h .before .before .before .args .b), sym (h .before .is-sound-date .ensures) ∙ not-false _ (h .if1 .left), sym (i .before .are-marks-sound .ensures) ∙ not-false _ (i .if2 .left), sym (j .before .are-products-sound .ensures) ∙ not-false _ (j .if3 .left), sym (k .before .are-windows-sound .ensures) ∙ not-false _ (k .if4 .left), sym (l .before .is-phase-sound .ensures) ∙ not-false _ (l .if5 .left))
+    (sound-tests (h .before .before .before .args .self), sym (h .before .is-sound-date .ensures) ∙ not-false _ (h .if1 .left), sym (i .before .are-marks-sound .ensures) ∙ not-false _ (i .if2 .left), sym (j .before .are-products-sound .ensures) ∙ not-false _ (j .if3 .left), sym (k .before .are-windows-sound .ensures) ∙ not-false _ (k .if4 .left), sym (l .before .is-phase-sound .ensures) ∙ not-false _ (l .if5 .left))
     (c .is-last-sound .ensures)
 
 pub is-sound-spec : {M : Type 1} → statement M
