@@ -8,7 +8,7 @@ ghost use lib.Dec.{eqb};
 ghost use lib.ListN.{length, drop};
 ghost use Rattle.grain.specs.Lists.{every};
 ghost use Rattle.grain.specs.Prices.{isOnTick};
-ghost use Rattle.grain.specs.Margin.{seasonLimits};
+ghost use Rattle.grain.specs.Margin.{seasonLimitsAs, seasonLimits};
 ghost use Rattle.record.specs.Window.{collect};
 ghost use Rattle.windows.specs.Windows.{sizeOf, windowOf, Changed};
 use grain::SeasonLimits;
@@ -100,7 +100,7 @@ pub fn is_full(w: Windows, p: usize) -> bool
 // The season limits that a full window gives.
 pub fn season_limits_of(w: Windows, p: usize) -> SeasonLimits
     requires { ⌜ (p < 8) × (sizeOf w p ≡ 45) ⌝ }
-    ensures { λ r. ⌜ r ≡ seasonLimits p (windowOf w p) ⌝ }
+    ensures { λ r. ⌜ seasonLimitsAs r ≡ seasonLimits p (windowOf w p) ⌝ }
 {
     let all = w.settlements;
     let start = 45 * p;
