@@ -8,6 +8,7 @@ pub mod MarginCases
 pub mod MonthSets
 pub mod OnTick
 pub mod Outcomes
+pub mod Rounded
 pub mod Rounding
 pub mod Scans
 pub mod Sums
