@@ -1,10 +1,14 @@
 pub mod Ascending
 pub mod Below
+pub mod Calendars
 pub mod Columns
 pub mod Every
 pub mod Fits
+pub mod MarginCases
 pub mod MonthSets
 pub mod OnTick
+pub mod Outcomes
+pub mod Rounded
 pub mod Rounding
 pub mod Scans
 pub mod Sums

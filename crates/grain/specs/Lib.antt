@@ -2,6 +2,7 @@ pub mod Lists
 pub mod Products
 pub mod Prices
 pub mod Amounts
+pub mod Rounding
 pub mod Dates
 pub mod Spot
 pub mod Check

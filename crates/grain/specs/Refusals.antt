@@ -9,7 +9,7 @@ noSuchDate = 3
 abbrev pub noSuchProduct : ℕ
 noSuchProduct = 5
 
--- a season file misshapen
+-- a season file misshapen, or not 45 settlements
 abbrev pub misshapen : ℕ
 misshapen = 6
 

@@ -3,13 +3,18 @@ ghost use mathlib.Core.Path.{_≡_};
 ghost use Prim.Native.Nat.{_<_, _^_};
 ghost use Rattle.grain.specs.Lists.{every, sum};
 ghost use Rattle.grain.specs.Prices.{isSettlement};
-ghost use Rattle.grain.specs.Margin.{expandedLimit, seasonLimits, calendarOf};
+ghost use Rattle.grain.specs.Margin.{refusalIn, expandedLimitAs, expandedLimit, seasonLimitsAs, seasonLimits, calendarAs, calendarOf};
 use crate::amounts::expanded;
 use crate::amounts::is_fit_amount;
 use crate::amounts::season_initial;
 use crate::dates::is_date;
 use crate::dates::month_length;
 use crate::prices::is_settlement;
+use crate::refusals::BAD_PRICE;
+use crate::refusals::MISSHAPEN;
+use crate::refusals::NO_SUCH_DATE;
+use crate::refusals::NO_SUCH_PRODUCT;
+use crate::refusals::UNFIT_AMOUNT;
 
 pub enum ExpandedLimit {
     Is(u32),
@@ -17,11 +22,40 @@ pub enum ExpandedLimit {
     UnfitAmount,
 }
 
+impl ExpandedLimit {
+    // The number of the refusal, 0 where there is none; so for the other two.
+    pub fn refusal(self) -> u32
+        ensures { λ r. ⌜ r ≡ refusalIn (expandedLimitAs self) ⌝ }
+    {
+        match self {
+            ExpandedLimit::Is(_) => 0,
+            ExpandedLimit::NoSuchProduct => NO_SUCH_PRODUCT,
+            ExpandedLimit::UnfitAmount => UNFIT_AMOUNT,
+        }
+    }
+}
+
 pub enum SeasonLimits {
     Are { initial: u32, expanded: u32 },
     NoSuchProduct,
     NotFortyFive,
     BadSettlement,
+}
+
+impl SeasonLimits {
+    pub fn refusal(self) -> u32
+        ensures { λ r. ⌜ r ≡ refusalIn (seasonLimitsAs self) ⌝ }
+    {
+        match self {
+            SeasonLimits::Are {
+                initial: _,
+                expanded: _,
+            } => 0,
+            SeasonLimits::NoSuchProduct => NO_SUCH_PRODUCT,
+            SeasonLimits::NotFortyFive => MISSHAPEN,
+            SeasonLimits::BadSettlement => BAD_PRICE,
+        }
+    }
 }
 
 pub enum Calendar {
@@ -34,9 +68,24 @@ pub enum Calendar {
     NoSuchDate,
 }
 
+impl Calendar {
+    pub fn refusal(self) -> u32
+        ensures { λ r. ⌜ r ≡ refusalIn (calendarAs self) ⌝ }
+    {
+        match self {
+            Calendar::On {
+                month: _,
+                season: _,
+                remaining: _,
+            } => 0,
+            Calendar::NoSuchDate => NO_SUCH_DATE,
+        }
+    }
+}
+
 // E of a product's initial limit.
 pub fn expanded_limit(product: u32, initial: u32) -> ExpandedLimit
-    ensures { λ r. ⌜ r ≡ expandedLimit product initial ⌝ }
+    ensures { λ r. ⌜ expandedLimitAs r ≡ expandedLimit product initial ⌝ }
 {
     if 8 <= product {
         return ExpandedLimit::NoSuchProduct;
@@ -75,7 +124,7 @@ fn sum_of(settlements: &[u32]) -> u32
 
 // I and E of a new season, from the 45 settlements of a product's window.
 pub fn season_limits(product: u32, settlements: &[u32]) -> SeasonLimits
-    ensures { λ r. ⌜ r ≡ seasonLimits product (now (settlements .entry)) ⌝ }
+    ensures { λ r. ⌜ seasonLimitsAs r ≡ seasonLimits product (now (settlements .entry)) ⌝ }
 {
     if 8 <= product {
         return SeasonLimits::NoSuchProduct;
@@ -95,7 +144,7 @@ pub fn season_limits(product: u32, settlements: &[u32]) -> SeasonLimits
 
 // A date's contract month and season.
 pub fn calendar_of(year: u32, month: u32, day: u32) -> Calendar
-    ensures { λ r. ⌜ r ≡ calendarOf year month day ⌝ }
+    ensures { λ r. ⌜ calendarAs r ≡ calendarOf year month day ⌝ }
 {
     if !is_date(year, month, day) {
         return Calendar::NoSuchDate;

@@ -2,15 +2,14 @@
 use Prim.Native.Nat.{ℕ, _<_}
 use mathlib.Core.Path.{_≡_, _∙_}
 use mathlib.Core.Bool.{Bool, true}
-use mathlib.Core.List.{List}
+use mathlib.Core.List.{List, [], _∷_}
 use lib.Dec.{eqb}
 use lib.ListN.{length}
 use borrow.Author.Tests.{lt-ltb, eqb-true}
 use Rattle.grain.specs.Lists.{every}
 use Rattle.grain.specs.Prices.{isSettlement}
 use Rattle.grain.specs.Amounts.{expandedOf, seasonOf}
-use Rattle.grain.specs.Margin.{seasonLimits}
-use Rattle.grain.specs.declared.margin.SeasonLimits.the-variants.{Are}
+use Rattle.grain.specs.Margin.{gives, seasonLimits}
 use Rattle.grain.proofs.Tests.{&&-right}
 use Rattle.windows.specs.declared.Windows.{Windows}
 use Rattle.windows.specs.Windows.{sizeOf, windowOf}
@@ -25,6 +24,6 @@ pub full-size : (next : Bool) (w : Windows) (p : ℕ) → length (w .settlements
 full-size next w p long l t = eqb-true _ _ (full-is w p long l ∙ full-window next (windowOf w p) t)
 
 pub full-limits : (p : ℕ) (window : List ℕ) → p < 8 → eqb (length window) 45 ≡ true → every (isSettlement p) window ≡ true
-    → seasonLimits p window ≡ Are (seasonOf p window) (expandedOf p (seasonOf p window))
+    → seasonLimits p window ≡ gives (seasonOf p window ∷ expandedOf p (seasonOf p window) ∷ [])
 unfolding seasonLimits
 full-limits p window l full settled = rw (lt-ltb p 8 l, full, settled)

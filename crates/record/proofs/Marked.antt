@@ -5,8 +5,7 @@ use mathlib.Core.List.{[], _∷_, _++_}
 use lib.ListN.{replicate}
 use Rattle.grain.specs.Amounts.{expandedOf}
 use Rattle.grain.specs.Dates.{contractMonth, isDate}
-use Rattle.grain.specs.Margin.{seasonLimits}
-use Rattle.grain.specs.declared.margin.SeasonLimits.the-variants.{Are}
+use Rattle.grain.specs.Margin.{gives, seasonLimits}
 use Rattle.grain.specs.declared.check.Verdict.the-variants.{Within}
 use Rattle.record.specs.State.{initial, expanded, isSpotOn}
 use Rattle.record.specs.End.{Quiet, Triggered, Held, Reverted, Raised}
@@ -19,15 +18,15 @@ pub record Marked : Type 0 where
   -- E: Corn 560, 840
   pub b : expandedOf corn 560 ≡ 840
   -- 45 equal settlements: Corn 6,000 gives 440, 680
-  pub c : seasonLimits corn (replicate 45 6000) ≡ Are 440 680
+  pub c : seasonLimits corn (replicate 45 6000) ≡ gives (440 ∷ 680 ∷ [])
   -- Oats 1,920 gives 160, 240
-  pub d : seasonLimits oats (replicate 45 1920) ≡ Are 160 240
+  pub d : seasonLimits oats (replicate 45 1920) ≡ gives (160 ∷ 240 ∷ [])
   -- Oil 5,000 gives 350, 550
-  pub e : seasonLimits oil (replicate 45 5000) ≡ Are 350 550
+  pub e : seasonLimits oil (replicate 45 5000) ≡ gives (350 ∷ 550 ∷ [])
   -- Meal 4,000 gives 300, 450
-  pub f : seasonLimits meal (replicate 45 4000) ≡ Are 300 450
+  pub f : seasonLimits meal (replicate 45 4000) ≡ gives (300 ∷ 450 ∷ [])
   -- Rice 3,000 gives 210, 320
-  pub g : seasonLimits rice (replicate 45 3000) ≡ Are 210 320
+  pub g : seasonLimits rice (replicate 45 3000) ≡ gives (210 ∷ 320 ∷ [])
   -- 2024-06-27, left 1: July is spot
   pub h₁ : isDate 2024 6 27 ≡ true
   pub h₂ : isSpotOn june27 (contractMonth 2024 7) ≡ true

@@ -9,10 +9,10 @@ use lib.ListN.{length, take, length-take}
 use lib.Seq.{take-all}
 use borrow.Author.Tests.{ltb-true, ltb-false}
 use Rattle.season.specs.SeasonFile.{seasonLine}
-use Rattle.season.specs.declared.file.Line.the-variants.{Refused}
+use Rattle.grain.specs.Margin.{refused}
 use Rattle.season.proofs.Shape.{misshapen-long}
 
-refused-long : (file : List ℕ) → 368 < length file → seasonLine file ≡ Refused 6
+refused-long : (file : List ℕ) → 368 < length file → seasonLine file ≡ refused 6
 unfolding seasonLine
 refused-long file l = rw (misshapen-long file l)
 

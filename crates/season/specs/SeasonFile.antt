@@ -9,8 +9,7 @@ use Rattle.grain.specs.Products.{isProduct}
 use Rattle.grain.specs.Prices.{isSettlement}
 use Rattle.grain.specs.Dates.{isDate}
 use Rattle.grain.specs.Amounts.{expandedOf, seasonOf}
-use Rattle.grain.specs.declared.margin.SeasonLimits.{SeasonLimits}
-use Rattle.grain.specs.declared.margin.SeasonLimits.the-variants.{Are, NoSuchProduct, NotFortyFive, BadSettlement}
+use Rattle.grain.specs.Margin.{Outcome, refused, gives}
 use Rattle.grain.specs.Refusals.{misshapen, noSuchProduct, noSuchDate, badPrice}
 use Rattle.season.specs.declared.file.Line.{Line}
 use Rattle.season.specs.declared.file.Line.the-variants.{Limits, Refused}
@@ -48,19 +47,25 @@ isMisshapen file =
 unfoldable pub isDateWord : ℕ → Bool
 isDateWord w = isDate (w / 10000) (w / 100 % 100) (w % 100)
 
--- the line of what the margin group's call answers, case by case
-abbrev pub limitsLine : ℕ → SeasonLimits → Line
-limitsLine product (Are initial expanded) = Limits product initial expanded
-limitsLine product NoSuchProduct = Refused noSuchProduct
-limitsLine product NotFortyFive = Refused misshapen
-limitsLine product BadSettlement = Refused badPrice
+-- the rule's number or values of a line
+abbrev pub lineAs : Line → Outcome
+lineAs (Limits product initial expanded) = gives (product ∷ initial ∷ expanded ∷ [])
+lineAs (Refused n) = refused n
 
--- the line's numbers, for any bytes: the refusals in their order, then the limits
-unfoldable pub seasonLine : List ℕ → Line
+-- the product stands before its limits
+abbrev pub withProduct : ℕ → Outcome → Outcome
+withProduct product (gives values) = gives (product ∷ values)
+withProduct product (refused n) = refused n
+
+-- what the line says, for any bytes: the refusals in their order, then the product and its limits
+unfoldable pub seasonLine : List ℕ → Outcome
 seasonLine file =
-    cond (isMisshapen file) (Refused misshapen)
-    (cond (not (isProduct (productIn file))) (Refused noSuchProduct)
-    (cond (not (every isDateWord (datesIn file) && isAscending (datesIn file))) (Refused noSuchDate)
-    (cond (not (every (isSettlement (productIn file)) (settlementsIn file))) (Refused badPrice)
-    (Limits (productIn file) (seasonOf (productIn file) (settlementsIn file))
-    (expandedOf (productIn file) (seasonOf (productIn file) (settlementsIn file)))))))
+    cond (isMisshapen file) (refused misshapen)
+    (cond (not (isProduct (productIn file))) (refused noSuchProduct)
+    (cond (not (every isDateWord (datesIn file) && isAscending (datesIn file))) (refused noSuchDate)
+    (cond (not (every (isSettlement (productIn file)) (settlementsIn file))) (refused badPrice)
+    (gives
+    (productIn file
+    ∷ seasonOf (productIn file) (settlementsIn file)
+    ∷ expandedOf (productIn file) (seasonOf (productIn file) (settlementsIn file))
+    ∷ [])))))

@@ -3,9 +3,9 @@ ghost use mathlib.Core.Path.{_≡_};
 ghost use Prim.Native.Nat.{_+_, _*_, _<_, _≤_};
 ghost use lib.ListN.{length, getD};
 ghost use Rattle.grain.specs.Lists.{every, isAscending};
-ghost use Rattle.season.specs.SeasonFile.{wordAt, wordsFrom, isMisshapen, isDateWord, limitsLine, seasonLine};
+ghost use Rattle.grain.specs.Margin.{seasonLimitsAs};
+ghost use Rattle.season.specs.SeasonFile.{wordAt, wordsFrom, isMisshapen, isDateWord, lineAs, withProduct, seasonLine};
 use grain::SeasonLimits;
-use grain::refusals::BAD_PRICE;
 use grain::refusals::MISSHAPEN;
 use grain::refusals::NO_SUCH_DATE;
 use grain::refusals::NO_SUCH_PRODUCT;
@@ -94,22 +94,20 @@ fn is_ascending(words: &[u32]) -> bool
 }
 
 fn limits_line(product: u32, limits: SeasonLimits) -> Line
-    ensures { λ r. ⌜ r ≡ limitsLine product limits ⌝ }
+    ensures { λ r. ⌜ lineAs r ≡ withProduct product (seasonLimitsAs limits) ⌝ }
 {
-    match limits {
-        SeasonLimits::Are { initial, expanded } => Line::Limits {
-            product,
-            initial,
-            expanded,
-        },
-        SeasonLimits::NoSuchProduct => Line::Refused(NO_SUCH_PRODUCT),
-        SeasonLimits::NotFortyFive => Line::Refused(MISSHAPEN),
-        SeasonLimits::BadSettlement => Line::Refused(BAD_PRICE),
+    let SeasonLimits::Are { initial, expanded } = limits else {
+        return Line::Refused(limits.refusal());
+    };
+    Line::Limits {
+        product,
+        initial,
+        expanded,
     }
 }
 
 pub fn line_of(file: &[u8]) -> Line
-    ensures { λ r. ⌜ r ≡ seasonLine (now (file .entry)) ⌝ }
+    ensures { λ r. ⌜ lineAs r ≡ seasonLine (now (file .entry)) ⌝ }
 {
     if is_misshapen(file) {
         return Line::Refused(MISSHAPEN);

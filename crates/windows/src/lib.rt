@@ -7,7 +7,7 @@ ghost use lib.Dec.{eqb};
 ghost use lib.ListN.{length, drop};
 ghost use Rattle.grain.specs.Lists.{every};
 ghost use Rattle.grain.specs.Prices.{isOnTick};
-ghost use Rattle.grain.specs.Margin.{seasonLimits};
+ghost use Rattle.grain.specs.Margin.{seasonLimitsAs, seasonLimits};
 ghost use Rattle.windows.specs.Windows.{sizeOf, windowOf, collectedIn, Changed};
 use grain::SeasonLimits;
 
@@ -111,7 +111,7 @@ pub fn are_on_tick(tick: u32, settlements: &[u32]) -> bool
 // The season limits that a full window gives.
 pub fn season_limits_of(w: Windows, p: usize) -> SeasonLimits
     requires { ⌜ (p < 8) × (sizeOf w p ≡ 45) ⌝ }
-    ensures { λ r. ⌜ r ≡ seasonLimits p (windowOf w p) ⌝ }
+    ensures { λ r. ⌜ seasonLimitsAs r ≡ seasonLimits p (windowOf w p) ⌝ }
 {
     let all = w.settlements;
     let start = 45 * p;

@@ -1,7 +1,8 @@
 use borrow.Author.Needs.{needs}
 use mathlib.Core.Path.{sym, _∙_, _≡_}
 use mathlib.Core.Bool.{true, false, Bool}
-use Rattle.book.proofs.Calendars.{true-date, no-date, dated}
+use Rattle.grain.proofs.Calendars.{no-date, dated}
+use Rattle.book.proofs.Calendars.{true-date}
 use Rattle.book.proofs.calendar.contract_month.Statement.{statement}
 use Rattle.book.proofs.calendar.contract_month.Tie as tie
 
@@ -18,7 +19,7 @@ returns : tie.Need-returns
 returns c =
     let k = c .before .before in
     let d = k .before .args .d in
-    let no = no-date (d .year) (d .month) (d .day) (sym (k .calendar-of .ensures) ∙ c .enum-told .given .1) in
+    let no = no-date (d .year) (d .month) (d .day) (rw (c .enum-told .given .1) at (k .calendar-of .ensures)) in
     let z : _≡_ {A = Bool} false true = sym no ∙ true-date d (k .before .pre) in
     cc
 
@@ -26,7 +27,7 @@ returns-2 : tie.Need-returns-2
 returns-2 c =
     let k = c .before .before .before in
     let d = k .before .args .d in
-    dated (d .year) (d .month) (d .day) _ _ _ (sym (k .calendar-of .ensures) ∙ c .before .month .given .1) .falls
+    dated (d .year) (d .month) (d .day) _ _ _ (rw (c .before .month .given .1) at (k .calendar-of .ensures)) .falls
 
 pub contract-month-spec : {M : Type 1} → statement M
 contract-month-spec =

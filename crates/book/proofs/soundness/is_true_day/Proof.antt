@@ -1,7 +1,6 @@
 use borrow.Author.Needs.{needs}
-use mathlib.Core.Path.{sym, _∙_}
 use Rattle.record.specs.Opening.{isTrueDay}
-use Rattle.book.proofs.Calendars.{no-date, dated}
+use Rattle.grain.proofs.Calendars.{no-date, dated}
 use Rattle.book.proofs.soundness.is_true_day.Statement.{statement}
 use Rattle.book.proofs.soundness.is_true_day.Tie as tie
 
@@ -19,14 +18,14 @@ unfolding isTrueDay
 returns c =
     let k = c .before .before in
     let d = k .before .args .d in
-    rw (no-date (d .year) (d .month) (d .day) (sym (k .calendar-of .ensures) ∙ c .enum-told .given .1))
+    rw (no-date (d .year) (d .month) (d .day) (rw (c .enum-told .given .1) at (k .calendar-of .ensures)))
 
 returns-2 : tie.Need-returns-2
 unfolding isTrueDay
 returns-2 c =
     let k = c .before .before .before .before in
     let d = k .before .args .d in
-    let is = dated (d .year) (d .month) (d .day) _ _ _ (sym (k .calendar-of .ensures) ∙ c .before .before .remaining .given .1) in
+    let is = dated (d .year) (d .month) (d .day) _ _ _ (rw (c .before .before .remaining .given .1) at (k .calendar-of .ensures)) in
     rw (is .date, is .remains)
 
 pub is-true-day-spec : {M : Type 1} → statement M

@@ -6,6 +6,7 @@ use types.Run.{miss}
 use borrow.Author.Tests.{not-true, not-false}
 use Rattle.grain.specs.Amounts.{seasonOf, expandedOf}
 use Rattle.grain.specs.declared.margin.SeasonLimits.the-variants.{Are}
+use Rattle.grain.proofs.Outcomes.{season-limits-same}
 use Rattle.windows.specs.Windows.{windowOf}
 use Rattle.opening.specs.Opens.{isRenewedBy}
 use Rattle.opening.proofs.FullWindows.{full-window, full-size, full-limits}
@@ -27,8 +28,9 @@ limits-are : (c : tie.After-season-limits-of)
 limits-are c =
     let s = c .before .before .before in
     let window = windowOf (s .args .w) (s .args .p) in
-    c .season-limits-of .ensures
-    ∙ full-limits (s .args .p) window (s .pre .0) (full-window (s .args .next) window (renewed (c .before))) (s .pre .1)
+    season-limits-same _ _
+    (c .season-limits-of .ensures
+    ∙ full-limits (s .args .p) window (s .pre .0) (full-window (s .args .next) window (renewed (c .before))) (s .pre .1))
 
 returns : tie.Need-returns
 returns c =

@@ -1,7 +1,8 @@
 use borrow.Author.Needs.{needs}
 use mathlib.Core.Path.{_≡_, sym, _∙_}
 use mathlib.Core.Bool.{Bool, true, false}
-use Rattle.book.proofs.Calendars.{true-date, no-date, calendar-is}
+use Rattle.grain.proofs.Calendars.{no-date, dated}
+use Rattle.book.proofs.Calendars.{true-date}
 use Rattle.opening.proofs.seasons.season_of.Statement.{statement}
 use Rattle.opening.proofs.seasons.season_of.Tie as tie
 
@@ -18,15 +19,15 @@ returns : tie.Need-returns
 returns c =
     let k = c .before .before in
     let d = k .before .args .d in
-    let no = no-date (d .year) (d .month) (d .day) (sym (k .calendar-of .ensures) ∙ c .enum-told .given .1) in
+    let no = no-date (d .year) (d .month) (d .day) (rw (c .enum-told .given .1) at (k .calendar-of .ensures)) in
     let z : _≡_ {A = Bool} false true = sym no ∙ true-date d (k .before .pre) in
     cc
 
 returns-2 : tie.Need-returns-2
 returns-2 c =
     let k = c .before .before .before in
-    let is = sym (c .before .season .given .1) ∙ k .calendar-of .ensures ∙ calendar-is (k .before .args .d) (k .before .pre) in
-    cc is
+    let d = k .before .args .d in
+    dated (d .year) (d .month) (d .day) _ _ _ (rw (c .before .season .given .1) at (k .calendar-of .ensures)) .counts
 
 pub season-of-spec : {M : Type 1} → statement M
 season-of-spec =
