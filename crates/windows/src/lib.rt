@@ -93,6 +93,22 @@ impl Windows {
         }
         self.sizes[p] == 45
     }
+
+    // The season limits that a full window gives.
+    pub fn season_limits(self, p: usize) -> SeasonLimits
+        ensures { λ r. ⌜ seasonLimitsAs r ≡ seasonLimits p (windowOf self p) ⌝ }
+    {
+        if 8 <= p {
+            return SeasonLimits::NoSuchProduct;
+        }
+        if self.sizes[p] != 45 {
+            return SeasonLimits::NotFortyFive;
+        }
+        let all = self.settlements;
+        let start = 45 * p;
+        let end = start + 45;
+        grain::season_limits(p as u32, &all[start..end])
+    }
 }
 
 // Whether each settlement is in range and on the tick. It goes through to the end, so that the compiler can test several at a time.
@@ -106,15 +122,4 @@ pub fn are_on_tick(tick: u32, settlements: &[u32]) -> bool
         i += 1;
     }
     all
-}
-
-// The season limits that a full window gives.
-pub fn season_limits_of(w: Windows, p: usize) -> SeasonLimits
-    requires { ⌜ (p < 8) × (sizeOf w p ≡ 45) ⌝ }
-    ensures { λ r. ⌜ seasonLimitsAs r ≡ seasonLimits p (windowOf w p) ⌝ }
-{
-    let all = w.settlements;
-    let start = 45 * p;
-    let end = start + 45;
-    grain::season_limits(p as u32, &all[start..end])
 }
