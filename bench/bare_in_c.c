@@ -1,19 +1,10 @@
 #include "bare_in_c.h"
 
 #include "botskhela.h"
+#include "products.h"
 
-#define PRODUCTS 8
-#define SIZES 2
 #define LARGEST_PRICE 1000000u
 #define LARGEST_AMOUNT 2000000u
-
-static const uint32_t STEP[PRODUCTS] = {40, 40, 50, 50, 40, 40, 40, 10};
-static const uint32_t FLOOR[PRODUCTS] = {160, 400, 200, 200, 240, 240, 160, 100};
-
-/* A tick of 0 stands for a size that is not offered. */
-static const uint32_t TICK[PRODUCTS][SIZES] = {
-    {2, 1}, {2, 1}, {1, 0}, {1, 0}, {2, 1}, {2, 0}, {2, 0}, {1, 0},
-};
 
 /* Compiled twice: by the remainder, and with MASKED by a mask, as every tick is 1 or 2. */
 #ifdef MASKED

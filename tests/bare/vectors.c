@@ -76,6 +76,7 @@ int failed_vectors(int *total)
         printf("FAILED vector, %s: expected %" PRIu32 ", the proved check says %" PRIu32 "\n",
                vector->why, vector->answer, answer);
     }
+    printf("vectors: %d, %d differences\n", count, failed);
     *total += count;
     return failed;
 }

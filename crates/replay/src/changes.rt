@@ -2,12 +2,12 @@
 use crate::asked::Change;
 use crate::line::Entries;
 use crate::line::Numbers;
+use crate::text::Buffer;
+use crate::text::put;
+use crate::text::put_events;
+use crate::text::put_refusal;
+use crate::text::put_renewed;
 use book::Book;
-use print::Buffer;
-use print::put;
-use print::put_events;
-use print::put_refusal;
-use print::put_renewed;
 
 pub struct State {
     pub founded: bool,

@@ -6,6 +6,7 @@ mod changes;
 mod line;
 mod names;
 mod questions;
+mod text;
 mod words;
 
 use asked::Asked;
@@ -13,7 +14,7 @@ use changes::State;
 use line::Entries;
 use line::Line;
 use line::Numbers;
-use print::Buffer;
+use text::Buffer;
 use words::Word;
 
 // Where the reading stands: the state, and what there is of a line and of a word in it.
@@ -111,7 +112,7 @@ fn main() {
         r = t.reading;
         if !t.on {
             let s = r.state;
-            print::flush(&mut out, s.at);
+            text::flush(&mut out, s.at);
             return;
         }
         turns -= 1;

@@ -2,14 +2,14 @@
 use crate::asked::Question;
 use crate::changes::State;
 use crate::line::Numbers;
+use crate::text::Buffer;
+use crate::text::put;
+use crate::text::put_book;
+use crate::text::put_refusal;
+use crate::text::put_verdict;
 use book::Book;
 use checking::Checked;
 use grain::Verdict;
-use print::Buffer;
-use print::put;
-use print::put_book;
-use print::put_refusal;
-use print::put_verdict;
 
 fn check(b: Book, numbers: &Numbers, out: &mut Buffer, at: usize) -> usize {
     let checked = checking::check(b, numbers[0], numbers[1], numbers[2], numbers[3]);

@@ -5,7 +5,7 @@ use std::process::ExitCode;
 use std::{env, fs, io};
 
 use oracle::testing::history::coverage::{self, Coverage};
-use oracle::testing::history::jobs::{self, Job, Outcome};
+use oracle::testing::history::jobs::{self, Job, Outcome, Trial};
 use oracle::testing::program::{Program, OF_HISTORIES};
 use oracle::testing::score::Score;
 use oracle::testing::workers::share_out;
@@ -27,7 +27,7 @@ fn main() -> ExitCode {
             return ExitCode::FAILURE;
         }
     };
-    let mut score = Score::showing(30);
+    let mut score = Score::default();
     let mut jobs = vec![Job::AllDays];
     if let Some(folder) = examples {
         match examples_in(folder) {
@@ -72,33 +72,30 @@ fn drawn_jobs() -> Vec<Job> {
     generated.chain(pairs).chain(garbage).collect()
 }
 
-/// Scores every test, then what the generated histories reached.
+/// Scores each part, then what the generated histories reached.
 fn report(outcomes: &[Outcome], score: &mut Score) {
+    for trial in jobs::SINGLE.iter().flat_map(|part| of(part, outcomes)) {
+        score.one(&trial.name, trial.failure.clone());
+    }
+    for part in jobs::DRAWN {
+        let failures: Vec<Option<String>> = of(part, outcomes).map(failure).collect();
+        score.all(part, &failures);
+    }
     let mut reached = Coverage::default();
     for outcome in outcomes {
         reached.add(&outcome.coverage);
-        for test in &outcome.tests {
-            match &test.failure {
-                None => score.pass(),
-                Some(failure) => score.fail(&format!("{}: {failure}", test.name)),
-            }
-        }
     }
     report_reached(&reached, score);
-    report_parts(outcomes);
 }
 
-/// How many tests each part made.
-fn report_parts(outcomes: &[Outcome]) {
-    for part in jobs::PARTS {
-        let tests = outcomes.iter().flat_map(|outcome| &outcome.tests);
-        let own: Vec<bool> = tests
-            .filter(|test| test.part == part)
-            .map(|test| test.failure.is_none())
-            .collect();
-        let passed = own.iter().filter(|passed| **passed).count();
-        println!("{part}: {passed} of {} passed", own.len());
-    }
+fn of<'a>(part: &'a str, outcomes: &'a [Outcome]) -> impl Iterator<Item = &'a Trial> {
+    let trials = outcomes.iter().flat_map(|outcome| &outcome.trials);
+    trials.filter(move |trial| trial.part == part)
+}
+
+fn failure(trial: &Trial) -> Option<String> {
+    let failure = trial.failure.as_ref()?;
+    Some(format!("{}: {failure}", trial.name))
 }
 
 /// One test: whatever was not reached fails it.
@@ -112,8 +109,9 @@ fn report_reached(reached: &Coverage, score: &mut Score) {
         .filter(|what| reached.times(what) == 0)
         .map(String::as_str)
         .collect();
-    match missed.is_empty() {
-        true => score.pass(),
-        false => score.fail(&format!("not reached: {}", missed.join("; "))),
-    }
+    let failure = (!missed.is_empty()).then(|| format!("not {}", missed.join("; ")));
+    score.one(
+        &format!("all {} things that histories reach", wanted.len()),
+        failure,
+    );
 }

@@ -6,7 +6,7 @@ use std::{env, fs, io};
 
 use oracle::testing::case::{self, Case};
 use oracle::testing::program::{Delivery, Program};
-use oracle::testing::score::Score;
+use oracle::testing::score::{difference, Score};
 
 fn main() -> ExitCode {
     let arguments: Vec<PathBuf> = env::args_os().skip(1).map(PathBuf::from).collect();
@@ -15,7 +15,7 @@ fn main() -> ExitCode {
         return ExitCode::FAILURE;
     };
     let mut program = Program::new(program);
-    let mut score = Score::showing(usize::MAX);
+    let mut score = Score::default();
     match case_files(folder) {
         Ok(files) => files
             .iter()
@@ -40,13 +40,14 @@ fn case_files(folder: &Path) -> io::Result<Vec<PathBuf>> {
 
 fn run(program: &mut Program, file: &Path, score: &mut Score) {
     let name = file.file_stem().unwrap_or_default().to_string_lossy();
-    match load(file) {
-        Ok(case) => {
-            let output = program.output_of(&case.input, Delivery::Whole);
-            score.compare(&name, &case.expected, output);
-        }
-        Err(error) => score.fail(&format!("{name}: {error}")),
-    }
+    let failure = match load(file) {
+        Ok(case) => difference(
+            &case.expected,
+            program.output_of(&case.input, Delivery::Whole),
+        ),
+        Err(error) => Some(error),
+    };
+    score.one(&name, failure);
 }
 
 fn load(file: &Path) -> Result<Case, String> {

@@ -9,7 +9,7 @@ use oracle::season;
 use oracle::testing::damage::{ShapeFault, WORD_FAULTS};
 use oracle::testing::draw::{Draft, Drawer};
 use oracle::testing::program::{Delivery, Program};
-use oracle::testing::score::Score;
+use oracle::testing::score::{difference, Score};
 
 const SEED: u64 = 20_230_501;
 
@@ -18,18 +18,24 @@ const LEAST: usize = 100;
 
 const REFUSALS: [&str; 4] = ["refused 6", "refused 5", "refused 3", "refused 8"];
 
-/// A way of drawing files: its name, how many files, and how one is drawn.
+/// A way of drawing files: what they are, how many, and how one is drawn.
 type Way = (&'static str, usize, fn(&mut Drawer) -> Vec<u8>);
 
 const WAYS: [Way; 8] = [
-    ("sound", 700, |drawer| drawer.sound().bytes()),
-    ("one wrong word", 700, |drawer| wrong_word(drawer).bytes()),
-    ("two wrong words", 400, two_wrong_words),
-    ("wrong shape", 400, wrong_shape),
-    ("wrong shape and word", 250, wrong_shape_and_word),
-    ("far longer", 24, far_longer),
-    ("random words", 150, Drawer::random_words),
-    ("garbage", 150, Drawer::garbage),
+    ("sound files", 700, |drawer| drawer.sound().bytes()),
+    ("files with a wrong word", 700, |drawer| {
+        wrong_word(drawer).bytes()
+    }),
+    ("files with two wrong words", 400, two_wrong_words),
+    ("files of a wrong shape", 400, wrong_shape),
+    (
+        "files of a wrong shape with a wrong word",
+        250,
+        wrong_shape_and_word,
+    ),
+    ("files that are far longer", 24, far_longer),
+    ("files of random words", 150, Drawer::random_words),
+    ("files of garbage", 150, Drawer::garbage),
 ];
 
 fn main() -> ExitCode {
@@ -39,17 +45,19 @@ fn main() -> ExitCode {
     };
     let mut program = Program::new(Path::new(&path));
     let mut drawer = Drawer::new(SEED);
-    let mut score = Score::showing(10);
+    let mut score = Score::default();
     let mut reached = BTreeMap::new();
-    for (name, files, draw) in WAYS {
-        for file in 0..files {
+    for (kind, files, draw) in WAYS {
+        let mut compare = |file| {
             let input = draw(&mut drawer);
             let expected = season::answer(&input);
-            *reached.entry(kind(&expected)).or_insert(0) += 1;
+            *reached.entry(answer_kind(&expected)).or_insert(0) += 1;
             let delivery = delivery(&mut drawer, &input);
             let output = program.output_of(&input, delivery);
-            score.compare(&format!("{name} {file}"), &expected, output);
-        }
+            difference(&expected, output).map(|failure| format!("file {file}: {failure}"))
+        };
+        let failures: Vec<Option<String>> = (0..files).map(&mut compare).collect();
+        score.all(kind, &failures);
     }
     report(&reached, &mut score);
     score.finish()
@@ -105,19 +113,22 @@ fn delivery(drawer: &mut Drawer, input: &[u8]) -> Delivery {
     Delivery::Pieces(drawer.random.pick(&[3, 8, 50, 367, 368]))
 }
 
-fn kind(answer: &str) -> &'static str {
+fn answer_kind(answer: &str) -> &'static str {
     let answer = answer.trim_end();
     let refusal = REFUSALS.into_iter().find(|refusal| *refusal == answer);
     refusal.unwrap_or("limits")
 }
 
-/// Says how often each answer was reached; one that was hardly tested is a failure.
+/// One test: an answer that was hardly reached fails it.
 fn report(reached: &BTreeMap<&str, usize>, score: &mut Score) {
-    for kind in ["limits"].into_iter().chain(REFUSALS) {
-        let times = reached.get(kind).copied().unwrap_or(0);
-        println!("{kind}: {times}");
+    let mut seldom = Vec::new();
+    for answer in ["limits"].into_iter().chain(REFUSALS) {
+        let times = reached.get(answer).copied().unwrap_or(0);
+        println!("{times:9} {answer}");
         if times < LEAST {
-            score.fail(&format!("{kind}: reached fewer than {LEAST} times"));
+            seldom.push(answer);
         }
     }
+    let failure = (!seldom.is_empty()).then(|| format!("not {}", seldom.join(", ")));
+    score.one(&format!("every answer {LEAST} times or more"), failure);
 }

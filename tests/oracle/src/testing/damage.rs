@@ -2,9 +2,10 @@
 
 use super::draw::{Draft, Drawer, DAYS};
 use crate::prices::LARGEST_PRICE;
+use crate::products;
 
 /// A fault that leaves the shape of the file alone.
-#[derive(Clone, Copy)]
+#[derive(Clone, Copy, Debug)]
 pub enum WordFault {
     Product,
     FalseDate,
@@ -20,7 +21,7 @@ pub const WORD_FAULTS: [WordFault; 4] = [
 ];
 
 /// A fault of the file's shape.
-#[derive(Clone, Copy)]
+#[derive(Clone, Copy, Debug)]
 pub enum ShapeFault {
     /// The count is not that of the entries.
     Count,
@@ -32,13 +33,21 @@ pub enum ShapeFault {
     FarLonger,
 }
 
+pub const SHAPE_FAULTS: [ShapeFault; 5] = [
+    ShapeFault::Count,
+    ShapeFault::Days,
+    ShapeFault::Cut,
+    ShapeFault::Longer,
+    ShapeFault::FarLonger,
+];
+
 impl Drawer {
     pub fn damage(&mut self, draft: &mut Draft, fault: WordFault) {
         match fault {
             WordFault::Product => draft.product = self.no_product(),
             WordFault::FalseDate => self.falsify(&mut draft.dates),
             WordFault::DateOrder => self.disorder(&mut draft.dates),
-            WordFault::Settlement => self.spoil(&mut draft.settlements),
+            WordFault::Settlement => self.spoil(draft),
         }
     }
 
@@ -84,12 +93,18 @@ impl Drawer {
         dates.swap(place, place + 1);
     }
 
-    fn spoil(&mut self, settlements: &mut [u32]) {
+    /// Puts in a settlement that is none for the product: out of range, or odd where the tick is 2.
+    fn spoil(&mut self, draft: &mut Draft) {
         let drawn = self.random.below(DAYS);
         let place = self.random.pick(&[0, drawn, DAYS - 1]);
-        let odd = settlements[place] | 1;
         let above = LARGEST_PRICE + 1 + self.random.below(4) as u32;
-        settlements[place] = self.random.pick(&[0, odd, odd, above, above, u32::MAX]);
+        let odd = draft.settlements[place] | 1;
+        let is_every_number_on_tick =
+            products::product(draft.product).is_none_or(|product| product.standard_tick == 1);
+        let off_tick = if is_every_number_on_tick { above } else { odd };
+        draft.settlements[place] =
+            self.random
+                .pick(&[0, off_tick, off_tick, above, above, u32::MAX]);
     }
 
     /// The bytes of a file with a fault of shape.
@@ -166,20 +181,78 @@ impl Drawer {
 #[cfg(test)]
 mod tests {
     use super::*;
+    use crate::products::PRODUCTS;
     use crate::season;
 
+    /// By a match, so that no fault can be left out.
+    fn number(fault: WordFault) -> u32 {
+        match fault {
+            WordFault::Product => 5,
+            WordFault::FalseDate | WordFault::DateOrder => 3,
+            WordFault::Settlement => 8,
+        }
+    }
+
+    fn assert_refused(file: &[u8], number: u32, what: &str) {
+        assert_eq!(
+            season::answer(file),
+            format!("refused {number}\n"),
+            "{what}"
+        );
+    }
+
     #[test]
-    fn word_faults_are_refused_by_their_numbers() {
+    fn word_faults_are_refused_by_their_numbers_for_every_product() {
         let mut drawer = Drawer::new(2);
-        for (fault, answer) in WORD_FAULTS.into_iter().zip(["5", "3", "3"]) {
-            for _ in 0..200 {
-                let mut draft = drawer.sound();
-                drawer.damage(&mut draft, fault);
-                assert_eq!(
-                    season::answer(&draft.bytes()),
-                    format!("refused {answer}\n")
-                );
+        for fault in WORD_FAULTS {
+            for product in 0..PRODUCTS.len() {
+                for _ in 0..100 {
+                    let mut draft = drawer.sound_of(product);
+                    drawer.damage(&mut draft, fault);
+                    assert_refused(
+                        &draft.bytes(),
+                        number(fault),
+                        &format!("{fault:?} of product {product}"),
+                    );
+                }
             }
+        }
+    }
+
+    #[test]
+    fn shape_faults_are_refused_for_every_product() {
+        let mut drawer = Drawer::new(3);
+        for fault in SHAPE_FAULTS {
+            for product in 0..PRODUCTS.len() {
+                for _ in 0..10 {
+                    let draft = drawer.sound_of(product);
+                    let file = drawer.misshape(draft, fault);
+                    assert_refused(&file, 6, &format!("{fault:?} of product {product}"));
+                }
+            }
+        }
+    }
+
+    /// Whether a spoilt file has a settlement that is wrong by its tick alone.
+    fn is_off_tick(draft: &Draft) -> bool {
+        let in_range = draft
+            .settlements
+            .iter()
+            .all(|s| (1..=LARGEST_PRICE).contains(s));
+        in_range && draft.settlements.iter().any(|s| s % 2 == 1)
+    }
+
+    #[test]
+    fn settlements_off_their_tick_are_drawn_where_the_tick_is_2() {
+        let mut drawer = Drawer::new(4);
+        for (product, row) in PRODUCTS.iter().enumerate() {
+            let mut off_tick = 0;
+            for _ in 0..100 {
+                let mut draft = drawer.sound_of(product);
+                drawer.damage(&mut draft, WordFault::Settlement);
+                off_tick += usize::from(is_off_tick(&draft));
+            }
+            assert_eq!(off_tick > 0, row.standard_tick == 2, "product {product}");
         }
     }
 }

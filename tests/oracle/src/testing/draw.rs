@@ -41,12 +41,16 @@ impl Drawer {
 
     /// A file that is answered with limits.
     pub fn sound(&mut self) -> Draft {
-        let number = self.random.below(PRODUCTS.len());
+        let product = self.random.below(PRODUCTS.len());
+        self.sound_of(product)
+    }
+
+    pub fn sound_of(&mut self, product: usize) -> Draft {
         Draft {
-            product: number as u32,
+            product: product as u32,
             count: DAYS as u32,
             dates: self.dates(),
-            settlements: self.settlements(&PRODUCTS[number]),
+            settlements: self.settlements(&PRODUCTS[product]),
         }
     }
 

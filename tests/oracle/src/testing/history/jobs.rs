@@ -28,8 +28,8 @@ pub enum Job {
     },
 }
 
-/// A test, and why it failed if it did.
-pub struct Test {
+/// A history that was tried, and why it failed if it did.
+pub struct Trial {
     /// The kind of job that made it.
     pub part: &'static str,
     pub name: String,
@@ -38,7 +38,7 @@ pub struct Test {
 
 #[derive(Default)]
 pub struct Outcome {
-    pub tests: Vec<Test>,
+    pub trials: Vec<Trial>,
     pub coverage: Coverage,
 }
 
@@ -46,12 +46,15 @@ const CHECKS_A_DAY: usize = 2;
 
 const ALL_DAYS: &str = "all days";
 const EXAMPLE: &str = "example";
-const GENERATED: &str = "generated";
-const SIDE_BY_SIDE: &str = "side by side";
-const GARBAGE: &str = "garbage";
+const GENERATED: &str = "generated histories";
+const SIDE_BY_SIDE: &str = "pairs of histories side by side";
+const GARBAGE: &str = "pieces of garbage";
 
-/// The parts in which tests are counted.
-pub const PARTS: [&str; 5] = [ALL_DAYS, EXAMPLE, GENERATED, SIDE_BY_SIDE, GARBAGE];
+/// The parts in which each history is a test of its own.
+pub const SINGLE: [&str; 2] = [ALL_DAYS, EXAMPLE];
+
+/// The parts that are one test over many histories.
+pub const DRAWN: [&str; 3] = [GENERATED, SIDE_BY_SIDE, GARBAGE];
 
 /// Runs a job with a program under test.
 pub fn run(program: &mut Program, job: &Job) -> Outcome {
@@ -66,7 +69,7 @@ pub fn run(program: &mut Program, job: &Job) -> Outcome {
 
 fn one(part: &'static str, name: String, failure: Option<String>) -> Outcome {
     Outcome {
-        tests: vec![Test {
+        trials: vec![Trial {
             part,
             name,
             failure,
@@ -88,7 +91,7 @@ fn generated(program: &mut Program, seed: u64) -> Outcome {
     let failure = compare(program, &history.text, &answers(&history.text));
     Outcome {
         coverage: history.coverage,
-        ..one(GENERATED, format!("{GENERATED} {seed}"), failure)
+        ..one(GENERATED, format!("seed {seed}"), failure)
     }
 }
 
@@ -113,16 +116,16 @@ fn all_days(program: &mut Program) -> Outcome {
 }
 
 fn garbage_from(program: &mut Program, first: u64, count: u64) -> Outcome {
-    let tests = (first..first + count).map(|seed| {
+    let trials = (first..first + count).map(|seed| {
         let piece = garbage::piece(seed);
-        Test {
+        Trial {
             part: GARBAGE,
-            name: format!("{GARBAGE} {seed}"),
+            name: format!("seed {seed}"),
             failure: survive(program, &piece),
         }
     });
     Outcome {
-        tests: tests.collect(),
+        trials: trials.collect(),
         coverage: Coverage::default(),
     }
 }
@@ -148,6 +151,6 @@ fn side_by_side(program: &mut Program, group: usize, seed: u64) -> Outcome {
         [Ok(first), Ok(second)] => pair.difference([&first, &second]),
         [Err(error), _] | [_, Err(error)] => Some(error),
     };
-    let name = format!("{SIDE_BY_SIDE}, group {group}, seed {seed}");
+    let name = format!("group {group}, seed {seed}");
     one(SIDE_BY_SIDE, name, failure)
 }

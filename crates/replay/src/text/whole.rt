@@ -1,14 +1,14 @@
 // The whole book as one line.
-use crate::columns::put_expandeds;
-use crate::columns::put_initials;
-use crate::columns::put_levels;
-use crate::columns::put_marks;
-use crate::columns::put_sheets;
-use crate::columns::put_windows;
-use crate::output::Buffer;
-use crate::output::put;
-use crate::output::put_byte;
-use crate::output::put_number;
+use crate::text::columns::Amount;
+use crate::text::columns::Bit;
+use crate::text::columns::put_bits;
+use crate::text::columns::put_limits;
+use crate::text::columns::put_sheets;
+use crate::text::columns::put_windows;
+use crate::text::output::Buffer;
+use crate::text::output::put;
+use crate::text::output::put_byte;
+use crate::text::output::put_number;
 use book::Book;
 use record::Day;
 
@@ -42,17 +42,17 @@ fn put_left(out: &mut Buffer, at: usize, trading: bool, left: u32) -> usize {
 fn put_groups(out: &mut Buffer, at: usize, b: Book) -> usize {
     let standings = b.standings;
     let c = put(out, at, b" level=");
-    let d = put_levels(out, c, standings);
+    let d = put_bits(out, c, standings, Bit::Level);
     let e = put(out, d, b" mark=");
-    put_marks(out, e, standings)
+    put_bits(out, e, standings, Bit::Mark)
 }
 
 fn put_products(out: &mut Buffer, at: usize, b: Book) -> usize {
     let limits = b.limits;
     let c = put(out, at, b" I=");
-    let d = put_initials(out, c, limits);
+    let d = put_limits(out, c, limits, Amount::Initial);
     let e = put(out, d, b" E=");
-    let f = put_expandeds(out, e, limits);
+    let f = put_limits(out, e, limits, Amount::Expanded);
     let w = b.windows;
     let g = put(out, f, b" windows=");
     put_windows(out, g, w)

@@ -1,9 +1,9 @@
 // The lines that answer the calls, but for the book's own.
-use crate::output::Buffer;
-use crate::output::put;
-use crate::output::put_bit;
-use crate::output::put_byte;
-use crate::output::put_number;
+use crate::text::output::Buffer;
+use crate::text::output::put;
+use crate::text::output::put_bit;
+use crate::text::output::put_byte;
+use crate::text::output::put_number;
 use ending::GroupEvent;
 use grain::Verdict;
 use record::Event;

@@ -1,8 +1,8 @@
 use Prim.Native.Nat.{_-_}
 use lib.ListN.{length}
 use borrow.Author.Needs.{needs}
-use Rattle.print.proofs.output.put.Statement.{statement}
-use Rattle.print.proofs.output.put.Tie as tie
+use Rattle.replay.proofs.text.output.put.Statement.{statement}
+use Rattle.replay.proofs.text.output.put.Tie as tie
 
 abbrev Inv-loop : tie.InvT-loop
 Inv-loop out₀ at text end₀ i₀ out end i = Unit {0}

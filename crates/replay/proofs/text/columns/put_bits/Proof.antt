@@ -1,13 +1,13 @@
 use Prim.Native.Nat.{_-_}
 use borrow.Author.Needs.{needs}
-use Rattle.print.proofs.columns.put_marks.Statement.{statement}
-use Rattle.print.proofs.columns.put_marks.Tie as tie
+use Rattle.replay.proofs.text.columns.put_bits.Statement.{statement}
+use Rattle.replay.proofs.text.columns.put_bits.Tie as tie
 
 abbrev Inv-loop : tie.InvT-loop
-Inv-loop out₀ at standings end₀ g₀ out end g = Unit {0}
+Inv-loop out₀ at standings bit end₀ g₀ out end g = Unit {0}
 
 abbrev μ-loop : tie.MeasureT-loop
-μ-loop out₀ at standings end₀ g₀ out end g = 6 - g
+μ-loop out₀ at standings bit end₀ g₀ out end g = 6 - g
 
 loop-holds : tie.Need-loop-holds Inv-loop μ-loop
 loop-holds c = search needs
@@ -17,6 +17,9 @@ mul-s c = search needs
 
 array-copy-out-s : tie.Need-array-copy-out-s Inv-loop μ-loop
 array-copy-out-s c = search needs
+
+bit-of-requires : tie.Need-bit-of-requires Inv-loop μ-loop
+bit-of-requires c κs = search needs
 
 put-bit-requires : tie.Need-put-bit-requires Inv-loop μ-loop
 put-bit-requires c κs = search needs
@@ -33,8 +36,8 @@ loop-again c = search needs
 returns : tie.Need-returns Inv-loop μ-loop
 returns c = search needs
 
-pub put-marks-spec : {M : Type 1} → statement M
-put-marks-spec =
+pub put-bits-spec : {M : Type 1} → statement M
+put-bits-spec =
     tie.close
     (tie.spec
     Inv-loop
@@ -42,6 +45,7 @@ put-marks-spec =
     loop-holds
     mul-s
     array-copy-out-s
+    bit-of-requires
     put-bit-requires
     add-g
     loop-less

@@ -1,7 +1,7 @@
 use Prim.Native.Nat.{_-_}
 use borrow.Author.Needs.{needs}
-use Rattle.print.proofs.replies.put_renewed.Statement.{statement}
-use Rattle.print.proofs.replies.put_renewed.Tie as tie
+use Rattle.replay.proofs.text.replies.put_renewed.Statement.{statement}
+use Rattle.replay.proofs.text.replies.put_renewed.Tie as tie
 
 abbrev Inv-loop : tie.InvT-loop
 Inv-loop out₀ at renewed end₀ p₀ out end p = Unit {0}

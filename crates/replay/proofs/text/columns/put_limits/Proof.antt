@@ -1,13 +1,13 @@
 use Prim.Native.Nat.{_-_}
 use borrow.Author.Needs.{needs}
-use Rattle.print.proofs.columns.put_initials.Statement.{statement}
-use Rattle.print.proofs.columns.put_initials.Tie as tie
+use Rattle.replay.proofs.text.columns.put_limits.Statement.{statement}
+use Rattle.replay.proofs.text.columns.put_limits.Tie as tie
 
 abbrev Inv-loop : tie.InvT-loop
-Inv-loop out₀ at limits end₀ p₀ out end p = Unit {0}
+Inv-loop out₀ at limits amount end₀ p₀ out end p = Unit {0}
 
 abbrev μ-loop : tie.MeasureT-loop
-μ-loop out₀ at limits end₀ p₀ out end p = 8 - p
+μ-loop out₀ at limits amount end₀ p₀ out end p = 8 - p
 
 loop-holds : tie.Need-loop-holds Inv-loop μ-loop
 loop-holds c = search needs
@@ -20,6 +20,9 @@ array-copy-out-limit c = search needs
 
 put-mark-requires : tie.Need-put-mark-requires Inv-loop μ-loop
 put-mark-requires c κs = search needs
+
+amount-of-requires : tie.Need-amount-of-requires Inv-loop μ-loop
+amount-of-requires c κs = search needs
 
 put-number-requires : tie.Need-put-number-requires Inv-loop μ-loop
 put-number-requires c κs = search needs
@@ -36,8 +39,8 @@ loop-again c = search needs
 returns : tie.Need-returns Inv-loop μ-loop
 returns c = search needs
 
-pub put-initials-spec : {M : Type 1} → statement M
-put-initials-spec =
+pub put-limits-spec : {M : Type 1} → statement M
+put-limits-spec =
     tie.close
     (tie.spec
     Inv-loop
@@ -46,6 +49,7 @@ put-initials-spec =
     mul-limit
     array-copy-out-limit
     put-mark-requires
+    amount-of-requires
     put-number-requires
     add-p
     loop-less

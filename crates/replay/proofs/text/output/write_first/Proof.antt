@@ -2,8 +2,8 @@ use borrow.Author.Needs.{needs}
 use native.Mathlib.Omega.{arith}
 use mathlib.Core.Path.{sym}
 use borrow.Table.Elements.{length-take-le}
-use Rattle.print.proofs.output.write_first.Statement.{statement}
-use Rattle.print.proofs.output.write_first.Tie as tie
+use Rattle.replay.proofs.text.output.write_first.Statement.{statement}
+use Rattle.replay.proofs.text.output.write_first.Tie as tie
 
 slice-aggregate-write-all : tie.Need-slice-aggregate-write-all
 slice-aggregate-write-all c = sym (length-take-le _ _ (omega arith))

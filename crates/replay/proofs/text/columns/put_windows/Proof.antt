@@ -1,7 +1,7 @@
 use Prim.Native.Nat.{_-_}
 use borrow.Author.Needs.{needs}
-use Rattle.print.proofs.columns.put_windows.Statement.{statement}
-use Rattle.print.proofs.columns.put_windows.Tie as tie
+use Rattle.replay.proofs.text.columns.put_windows.Statement.{statement}
+use Rattle.replay.proofs.text.columns.put_windows.Tie as tie
 
 abbrev Inv-loop : tie.InvT-loop
 Inv-loop out₀ at w end₀ p₀ out end p = Unit {0}

@@ -1,13 +1,13 @@
 use Prim.Native.Nat.{_-_}
 use borrow.Author.Needs.{needs}
-use Rattle.print.proofs.columns.put_levels.Statement.{statement}
-use Rattle.print.proofs.columns.put_levels.Tie as tie
+use Rattle.replay.proofs.text.columns.put_sheets.Statement.{statement}
+use Rattle.replay.proofs.text.columns.put_sheets.Tie as tie
 
 abbrev Inv-loop : tie.InvT-loop
-Inv-loop out₀ at standings end₀ g₀ out end g = Unit {0}
+Inv-loop out₀ at sheets end₀ p₀ out end p = Unit {0}
 
 abbrev μ-loop : tie.MeasureT-loop
-μ-loop out₀ at standings end₀ g₀ out end g = 6 - g
+μ-loop out₀ at sheets end₀ p₀ out end p = 8 - p
 
 loop-holds : tie.Need-loop-holds Inv-loop μ-loop
 loop-holds c = search needs
@@ -18,11 +18,14 @@ mul-s c = search needs
 array-copy-out-s : tie.Need-array-copy-out-s Inv-loop μ-loop
 array-copy-out-s c = search needs
 
-put-bit-requires : tie.Need-put-bit-requires Inv-loop μ-loop
-put-bit-requires c κs = search needs
+put-mark-requires : tie.Need-put-mark-requires Inv-loop μ-loop
+put-mark-requires c κs = search needs
 
-add-g : tie.Need-add-g Inv-loop μ-loop
-add-g c = search needs
+put-sheet-requires : tie.Need-put-sheet-requires Inv-loop μ-loop
+put-sheet-requires c κs = search needs
+
+add-p : tie.Need-add-p Inv-loop μ-loop
+add-p c = search needs
 
 loop-less : tie.Need-loop-less Inv-loop μ-loop
 loop-less c = search needs
@@ -33,8 +36,8 @@ loop-again c = search needs
 returns : tie.Need-returns Inv-loop μ-loop
 returns c = search needs
 
-pub put-levels-spec : {M : Type 1} → statement M
-put-levels-spec =
+pub put-sheets-spec : {M : Type 1} → statement M
+put-sheets-spec =
     tie.close
     (tie.spec
     Inv-loop
@@ -42,8 +45,9 @@ put-levels-spec =
     loop-holds
     mul-s
     array-copy-out-s
-    put-bit-requires
-    add-g
+    put-mark-requires
+    put-sheet-requires
+    add-p
     loop-less
     loop-again
     returns)

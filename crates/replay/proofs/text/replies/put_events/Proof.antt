@@ -1,7 +1,7 @@
 use Prim.Native.Nat.{_-_}
 use borrow.Author.Needs.{needs}
-use Rattle.print.proofs.replies.put_events.Statement.{statement}
-use Rattle.print.proofs.replies.put_events.Tie as tie
+use Rattle.replay.proofs.text.replies.put_events.Statement.{statement}
+use Rattle.replay.proofs.text.replies.put_events.Tie as tie
 
 abbrev Inv-loop : tie.InvT-loop
 Inv-loop out₀ at events end₀ g₀ out end g = Unit {0}

@@ -1,7 +1,7 @@
 use Prim.Native.Nat.{_-_}
 use borrow.Author.Needs.{needs}
-use Rattle.print.proofs.columns.put_window.Statement.{statement}
-use Rattle.print.proofs.columns.put_window.Tie as tie
+use Rattle.replay.proofs.text.columns.put_window.Statement.{statement}
+use Rattle.replay.proofs.text.columns.put_window.Tie as tie
 
 abbrev Inv-loop : tie.InvT-loop
 Inv-loop out₀ at w p end₀ i₀ out end i = Unit {0}

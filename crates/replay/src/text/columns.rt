@@ -1,9 +1,9 @@
 // What a book has for each group and each product, in a row; sheets and windows within their counts.
 ghost use Prim.Native.Nat.{_<_};
-use crate::output::Buffer;
-use crate::output::put_bit;
-use crate::output::put_byte;
-use crate::output::put_number;
+use crate::text::output::Buffer;
+use crate::text::output::put_bit;
+use crate::text::output::put_byte;
+use crate::text::output::put_number;
 use book::Limit;
 use book::Standing;
 use sheets::Sheet;
@@ -17,40 +17,47 @@ fn put_mark(out: &mut Buffer, at: usize, mark: u8, item: usize) -> usize {
     put_byte(out, at, mark)
 }
 
-pub fn put_levels(out: &mut Buffer, at: usize, standings: [Standing; 6]) -> usize {
+// Which of a group's two bits a row has.
+pub enum Bit {
+    Level,
+    Mark,
+}
+
+fn bit_of(s: Standing, bit: Bit) -> bool {
+    match bit {
+        Bit::Level => s.expanded,
+        Bit::Mark => s.marked,
+    }
+}
+
+pub fn put_bits(out: &mut Buffer, at: usize, standings: [Standing; 6], bit: Bit) -> usize {
     let mut end = at;
     for g in 0..6usize {
         let s = standings[g];
-        end = put_bit(out, end, s.expanded);
+        end = put_bit(out, end, bit_of(s, bit));
     }
     end
 }
 
-pub fn put_marks(out: &mut Buffer, at: usize, standings: [Standing; 6]) -> usize {
-    let mut end = at;
-    for g in 0..6usize {
-        let s = standings[g];
-        end = put_bit(out, end, s.marked);
-    }
-    end
+// Which of a product's two limits a row has.
+pub enum Amount {
+    Initial,
+    Expanded,
 }
 
-pub fn put_initials(out: &mut Buffer, at: usize, limits: [Limit; 8]) -> usize {
+fn amount_of(limit: Limit, amount: Amount) -> u32 {
+    match amount {
+        Amount::Initial => limit.initial,
+        Amount::Expanded => limit.expanded,
+    }
+}
+
+pub fn put_limits(out: &mut Buffer, at: usize, limits: [Limit; 8], amount: Amount) -> usize {
     let mut end = at;
     for p in 0..8usize {
         let limit = limits[p];
         end = put_mark(out, end, b',', p);
-        end = put_number(out, end, limit.initial);
-    }
-    end
-}
-
-pub fn put_expandeds(out: &mut Buffer, at: usize, limits: [Limit; 8]) -> usize {
-    let mut end = at;
-    for p in 0..8usize {
-        let limit = limits[p];
-        end = put_mark(out, end, b',', p);
-        end = put_number(out, end, limit.expanded);
+        end = put_number(out, end, amount_of(limit, amount));
     }
     end
 }
