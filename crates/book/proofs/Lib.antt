@@ -5,7 +5,7 @@ pub mod Everies
 pub mod Shown
 pub mod SoundFacts
 pub mod SheetsIn
-pub mod Calendars
+pub mod TradeDates
 pub mod Founded
 pub mod Unfounded
 pub mod Views

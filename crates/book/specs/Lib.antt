@@ -1,4 +1,5 @@
 pub mod Book
 pub mod Calls
+pub mod Dates
 pub mod Founding
 pub mod Soundness

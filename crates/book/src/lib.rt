@@ -3,12 +3,13 @@ use record::Day;
 use sheets::Sheet;
 use windows::Windows;
 
-mod calendar;
+mod dates;
 mod founding;
 mod limits;
 mod soundness;
 
-pub use calendar::contract_month;
+pub use dates::Dated;
+pub use dates::trade_date;
 pub use founding::Founding;
 pub use founding::found;
 pub use limits::group_of;

@@ -11,7 +11,7 @@ use Rattle.record.specs.declared.Day.{Day}
 use Rattle.record.specs.State.{monthOf}
 use Rattle.record.specs.Opening.{isTrueDay}
 use Rattle.record.specs.Window.{newCropMonth}
-use Rattle.book.proofs.Calendars.{true-date}
+use Rattle.book.proofs.TradeDates.{true-date}
 use Rattle.ending.specs.Ends.{collectingAs, monthIn}
 
 pub record Dated (d : Day) (today : ℕ) : Type 0 where

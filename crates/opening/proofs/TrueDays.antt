@@ -16,7 +16,7 @@ use Rattle.record.specs.Opening.{isTrueDay, seasonOn}
 use Rattle.record.specs.Sound.{isSound}
 use Rattle.book.specs.declared.Book.{Book}
 use Rattle.book.specs.Book.{isNoDay, openedOf, view}
-use Rattle.book.proofs.Calendars.{true-date}
+use Rattle.book.proofs.TradeDates.{true-date}
 use Rattle.book.proofs.SoundFacts.{true-day}
 use Rattle.opening.specs.Opens.{NoneOrTrue}
 

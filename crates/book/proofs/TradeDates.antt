@@ -1,0 +1,35 @@
+-- What a true day says of its date, and of its trade date.
+use Prim.Native.Nat.{ℕ}
+use mathlib.Core.Path.{_≡_, sym, _∙_}
+use mathlib.Core.Bool.{true}
+use native.Mathlib.Omega.{arith}
+use lib.Dec.{leb}
+use Rattle.grain.specs.Dates.{isDate, daysRemaining}
+use Rattle.grain.specs.declared.spot.TradeDate.{TradeDate}
+use Rattle.grain.proofs.Tests.{&&-left}
+use Rattle.record.specs.declared.Day.{Day}
+use Rattle.record.specs.State.{tradeDate}
+use Rattle.record.specs.Opening.{isTrueDay}
+use Rattle.book.specs.declared.dates.Dated.{Dated}
+use Rattle.book.specs.declared.dates.Dated.the-variants.{On, NoDay}
+use Rattle.book.specs.Dates.{tradeDateOf, datedAs}
+
+module _ (d : Day) (t : isTrueDay d ≡ true) where
+  pub true-date : isDate (d .year) (d .month) (d .day) ≡ true
+  unfolding isTrueDay
+  true-date = &&-left (isDate (d .year) (d .month) (d .day)) (leb (d .left) (daysRemaining (d .year) (d .month) (d .day))) t
+
+  dated-on : datedAs (tradeDateOf d) ≡ On (tradeDate d)
+  unfolding tradeDateOf
+  dated-on = rw true-date
+
+  -- it has a trade date
+  pub has-date : (r : Dated) → r ≡ datedAs (tradeDateOf d) → r ≡ NoDay → ⊥
+  has-date r e none =
+      let z : On (tradeDate d) ≡ NoDay = sym dated-on ∙ sym e ∙ none in
+      let n : _≡_ {A = ℕ} 0 1 = cc in
+      omega arith
+
+  -- and that is the date's contract month with its left
+  pub date-is : (r : Dated) (at : TradeDate) → r ≡ datedAs (tradeDateOf d) → r ≡ On at → at ≡ tradeDate d
+  date-is r at e on = let z : On at ≡ On (tradeDate d) = sym on ∙ e ∙ dated-on in cc
