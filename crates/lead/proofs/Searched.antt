@@ -9,6 +9,7 @@ use native.Mathlib.Nat.{eq-or-lt-of-le}
 use native.Mathlib.Omega.{arith}
 use borrow.Author.Tests.{le-leb, ltb-true, ltb-false, eq-eqb, eqb-true}
 use lib.Dec.{ltb, eqb}
+use Rattle.grain.specs.declared.spot.TradeDate.{TradeDate}
 use Rattle.grain.specs.Spot.{isSpot}
 use Rattle.grain.specs.Products.{firstOf}
 use Rattle.grain.proofs.Tests.{&&-left, &&-right, &&-both}
@@ -71,16 +72,16 @@ Clear f lo hi m = (q n : ℕ) → lo ≤ q → q < hi → n < m → f q n ≡ fa
 abbrev pub ClearAt : (ℕ → ℕ → Bool) → ℕ → ℕ → ℕ → Type 0
 ClearAt f lo p m = (q : ℕ) → lo ≤ q → q < p → f q m ≡ false
 
-module _ (b : Book) (today left : ℕ) (condition : Condition) where
+module _ (b : Book) (date : TradeDate) (condition : Condition) where
   -- the contract of product p in month m meets the condition
   unfoldable pub isMet : ℕ → ℕ → Bool
   isMet p m =
-      meetsOn (meets condition) (λ month. isSpot month today left) p (limitIn b p .initial) (limitIn b p .expanded)
+      meetsOn (meets condition) (isSpot date) p (limitIn b p .initial) (limitIn b p .expanded)
       (contractsOf (todayIn b p)) (contractsOf (lastIn b p)) m
 
   module _ (lo hi : ℕ) (order : lo ≤ hi) (most : hi ≤ 8) (sound : Readable b) where
     abbrev spot : ℕ → Bool
-    spot month = isSpot month today left
+    spot month = isSpot date month
 
     abbrev g : Move → Bool
     g = meets condition
@@ -119,9 +120,9 @@ module _ (b : Book) (today left : ℕ) (condition : Condition) where
         (lt-or-ge a n)
 
     -- before the date's month every contract is spot
-    pub clear-spot : Clear isMet lo hi today
+    pub clear-spot : Clear isMet lo hi (date .month)
     unfolding isMet meetsOn isSpot
-    clear-spot p n k l h = let early : n ≤ today = omega arith in rw (le-leb n today early)
+    clear-spot p n k l h = let early : n ≤ date .month = omega arith in rw (le-leb n (date .month) early)
 
     pub clear-next : (a m : ℕ) → m ≡ nextOf (b .today) a 0 group → Clear isMet lo hi a → ClearAt isMet lo hi a → Clear isMet lo hi m
     clear-next a m e clear here p n k l h = go (isMet p n) refl
@@ -140,11 +141,11 @@ module _ (b : Book) (today left : ℕ) (condition : Condition) where
         (&&-both (eqb (v .month) (v .month)) (g v) (eq-eqb (v .month) (v .month) refl) e)
 
     pub none-leads : (a m : ℕ) → m ≡ nextOf (b .today) a 0 group → m ≡ 0 → Clear isMet lo hi a → ClearAt isMet lo hi a
-        → leading (keep g (movesOf b today left group)) ≡ none
+        → leading (keep g (movesOf b date group)) ≡ none
     unfolding movesOf
-    none-leads a m e z clear here = none-lead g (movesOf b today left group) unmet
+    none-leads a m e z clear here = none-lead g (movesOf b date group) unmet
       where
-        unmet : (v : Move) → Member v (movesOf b today left group) → g v ≡ false
+        unmet : (v : Move) → Member v (movesOf b date group) → g v ≡ false
         unmet v d = go (g v) refl
           where
             go : (x : Bool) → g v ≡ x → g v ≡ false
@@ -167,7 +168,7 @@ module _ (b : Book) (today left : ℕ) (condition : Condition) where
           (λ later. inl later) (eq-or-lt-of-le from))
           (lt-or-ge n m)
 
-      low : (v : Move) → v .month ≡ m → v .product ≡ p → (w : Move) → Member w (movesOf b today left group) → g w ≡ true
+      low : (v : Move) → v .month ≡ m → v .product ≡ p → (w : Move) → Member w (movesOf b date group) → g w ≡ true
           → Behind (leadBy v) (leadBy w)
       unfolding movesOf viewProduct
       low v in-month by-product w d met =
@@ -178,15 +179,15 @@ module _ (b : Book) (today left : ℕ) (condition : Condition) where
           rw (in-month, by-product, number) (first (w .month) t i h (met-by w t h inside met)))
 
       pub this-leads : isMet p m ≡ true
-          → leading (keep g (movesOf b today left group)) ≡ some (record { month = m; product = p })
+          → leading (keep g (movesOf b date group)) ≡ some (record { month = m; product = p })
       unfolding movesOf viewProduct
       this-leads met =
           let lead : Lead = record { month = m; product = p } in
-          any-member (leading (keep g (movesOf b today left group)) ≡ some lead) (λ w. eqb (w .month) m && g w) (movesBy p)
+          any-member (leading (keep g (movesOf b date group)) ≡ some lead) (λ w. eqb (w .month) m && g w) (movesBy p)
           (has p m (omega arith) ∙ met)
           (λ v d both.
           let in-month = eqb-true (v .month) m (&&-left (eqb (v .month) m) (g v) both) in
           let by-product : v .product ≡ p = move-number spot (viewProduct b p) v d in
-          one-leads g v (&&-right (eqb (v .month) m) (g v) both) (movesOf b today left group)
+          one-leads g v (&&-right (eqb (v .month) m) (g v) both) (movesOf b date group)
           (among (productMoves spot) (viewProduct b) v lo (hi - lo) p k (omega arith) d) (low v in-month by-product)
           ∙ ap₂ (λ (x y : ℕ). let n : Lead = record { month = x; product = y } in some n) in-month by-product)

@@ -5,6 +5,7 @@ use mathlib.Core.Bool.{Bool, true}
 use mathlib.Core.List.{List, [], _∷_, map}
 use mathlib.Core.Option.{Option, some, none}
 use Rattle.grain.specs.Lists.{isAscending}
+use Rattle.grain.specs.declared.spot.TradeDate.{TradeDate}
 use Rattle.grain.specs.Spot.{isSpot}
 use Rattle.record.specs.declared.Lead.{Lead}
 use Rattle.record.specs.Choices.{concatMap}
@@ -32,9 +33,9 @@ abbrev pub productsFrom : ℕ → ℕ → List ℕ
 productsFrom p zero = []
 productsFrom p (suc n) = p ∷ productsFrom (suc p) n
 
--- the moves of some products of a book; today is the contract month of the date
-unfoldable pub movesOf : Book → ℕ → ℕ → List ℕ → List Move
-movesOf b today left ps = concatMap (productMoves (λ month. isSpot month today left)) (map (viewProduct b) ps)
+-- the moves of some products of a book
+unfoldable pub movesOf : Book → TradeDate → List ℕ → List Move
+movesOf b date ps = concatMap (productMoves (isSpot date)) (map (viewProduct b) ps)
 
 -- what the search asks of a book's sheets, which every sound book has
 pub record Readable (b : Book) : Type 0 where

@@ -10,6 +10,13 @@ use Rattle.grain.specs.Products.{firstOf}
 use Rattle.record.specs.declared.Contract.{Contract}
 use Rattle.record.specs.State.{settlementOn}
 use Rattle.record.specs.End.{Move}
+use Rattle.grain.specs.declared.spot.TradeDate.{TradeDate}
+use Rattle.grain.specs.Spot.{isSpot}
+use Rattle.sheets.specs.declared.Sheet.{Sheet}
+use Rattle.sheets.specs.Sheets.{contractsOf}
+use Rattle.book.specs.declared.Limit.{Limit}
+use Rattle.lead.specs.declared.Condition.{Condition}
+use Rattle.lead.specs.Lead.{meets}
 
 -- the nearer month after a: r so far, which is 0 where there is none, or m
 unfoldable pub sooner : ℕ → ℕ → ℕ → ℕ
@@ -41,3 +48,8 @@ unfoldable pub meetsOn : (Move → Bool) → (ℕ → Bool) → ℕ → ℕ → 
 meetsOn g spot p i e today last m =
     cond (spot m) false
     (changeMeets g p i e m (ltb (countEarlier spot m today) (firstOf p)) (settlementOn today m) (settlementOn last m))
+
+-- the same of a product of a book: its limits, today's sheet and that of the last ended day
+abbrev pub meetsIn : Condition → TradeDate → ℕ → Limit → Sheet → Sheet → ℕ → Bool
+meetsIn condition date p limit current last m =
+    meetsOn (meets condition) (isSpot date) p (limit .initial) (limit .expanded) (contractsOf current) (contractsOf last) m

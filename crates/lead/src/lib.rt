@@ -6,6 +6,7 @@ ghost use Rattle.record.specs.Choices.{keep};
 ghost use Rattle.record.specs.End.{leading as leadOf};
 ghost use Rattle.lead.specs.Lead.{meets, foundAs, productsFrom, movesOf, Readable};
 use book::Book;
+use grain::TradeDate;
 use months::next_in;
 use moves::meets_in;
 use record::Lead;
@@ -28,13 +29,13 @@ pub enum Found {
     Nobody,
 }
 
-// The leading contract of products lo to hi, hi not among them; today is the contract month of the date.
-pub fn leading(b: Book, today: u32, left: u32, condition: Condition, lo: usize, hi: usize) -> Found
+// The leading contract of products lo to hi, hi not among them.
+pub fn leading(b: Book, date: TradeDate, condition: Condition, lo: usize, hi: usize) -> Found
     requires { ⌜ (lo ≤ hi) × (hi ≤ 8) × Readable b ⌝ }
-    ensures { λ r. ⌜ r ≡ foundAs (leadOf (keep (meets condition) (movesOf b today left (productsFrom lo (hi - lo))))) ⌝ }
+    ensures { λ r. ⌜ r ≡ foundAs (leadOf (keep (meets condition) (movesOf b date (productsFrom lo (hi - lo))))) ⌝ }
 {
     // In the date's month every contract is spot: the first turn only finds the next month.
-    let mut month = today;
+    let mut month = date.month;
     let mut found = Found::Nobody;
     'search: loop {
         // The nearest month after this one; 0 is none.
@@ -43,7 +44,7 @@ pub fn leading(b: Book, today: u32, left: u32, condition: Condition, lo: usize, 
             let t = b.today[p];
             let l = b.last[p];
             let limit = b.limits[p];
-            if meets_in(condition, p as u32, limit, t, l, month, today, left) {
+            if meets_in(condition, p as u32, limit, t, l, month, date) {
                 found = Found::At(Lead {
                     month,
                     product: p as u32,

@@ -20,8 +20,8 @@ fn sooner_of(after: u32, best: u32, month: u32) -> u32
     best
 }
 
-// The nearest month after a month on a sheet, or best where that is nearer; 0 is none. It is pub for the search alone, whose sheets are sound.
-pub fn next_in(s: Sheet, after: u32, best: u32) -> u32
+// The nearest month after a month on a sheet, or best where that is nearer; 0 is none.
+pub(crate) fn next_in(s: Sheet, after: u32, best: u32) -> u32
     requires { ⌜ s .len ≤ 16 ⌝ }
     ensures { λ r. ⌜ r ≡ nextIn after best (contractsOf s) ⌝ }
 {

@@ -1,19 +1,19 @@
-// Whether a product's contract of a month moved as an event asks. `today` is the contract month of the date.
+// Whether a product's contract of a month moved as an event asks.
 ghost use mathlib.Core.Path.{_≡_};
 ghost use Prim.Native.Nat.{_≤_};
 ghost use Rattle.grain.specs.Spot.{isSpot};
 ghost use Rattle.sheets.specs.Sheets.{contractsOf};
-ghost use Rattle.lead.specs.Lead.{meets};
-ghost use Rattle.lead.specs.Search.{oneIfEarlier, countEarlier, meetsOn};
+ghost use Rattle.lead.specs.Search.{oneIfEarlier, countEarlier, meetsIn};
 use crate::Condition;
 use book::Limit;
+use grain::TradeDate;
 use sheets::Listed;
 use sheets::Sheet;
 
-fn one_if_earlier(month: u32, than: u32, today: u32, left: u32) -> u32
-    ensures { λ r. ⌜ r ≡ oneIfEarlier (λ month. isSpot month today left) than month ⌝ }
+fn one_if_earlier(month: u32, than: u32, date: TradeDate) -> u32
+    ensures { λ r. ⌜ r ≡ oneIfEarlier (isSpot date) than month ⌝ }
 {
-    if grain::is_spot(month, today, left) {
+    if date.is_spot(month) {
         return 0;
     }
     if month < than {
@@ -23,40 +23,39 @@ fn one_if_earlier(month: u32, than: u32, today: u32, left: u32) -> u32
 }
 
 // How many non-spot contracts of a sheet are before a month.
-fn count_earlier(s: Sheet, month: u32, today: u32, left: u32) -> u32
+fn count_earlier(s: Sheet, month: u32, date: TradeDate) -> u32
     requires { ⌜ s .len ≤ 16 ⌝ }
-    ensures { λ r. ⌜ r ≡ countEarlier (λ month. isSpot month today left) month (contractsOf s) ⌝ }
+    ensures { λ r. ⌜ r ≡ countEarlier (isSpot date) month (contractsOf s) ⌝ }
 {
     let n = s.len;
     let mut count: u32 = 0;
     for i in 0..n {
         let c = s.contracts[i];
-        count += one_if_earlier(c.month, month, today, left);
+        count += one_if_earlier(c.month, month, date);
     }
     count
 }
 
-// `current` and `last` are the product's sheets, today's and that of the last ended day. It is pub for the search alone, whose sheets are sound.
-pub fn meets_in(
+// `current` and `last` are the product's sheets, today's and that of the last ended day.
+pub(crate) fn meets_in(
     condition: Condition,
     product: u32,
     limit: Limit,
     current: Sheet,
     last: Sheet,
     month: u32,
-    today: u32,
-    left: u32,
+    date: TradeDate,
 ) -> bool
     requires { ⌜ (current .len ≤ 16) × (last .len ≤ 16) ⌝ }
-    ensures { λ r. ⌜ r ≡ meetsOn (meets condition) (λ month. isSpot month today left) product (limit .initial) (limit .expanded) (contractsOf current) (contractsOf last) month ⌝ }
+    ensures { λ r. ⌜ r ≡ meetsIn condition date product limit current last month ⌝ }
 {
-    if grain::is_spot(month, today, left) {
+    if date.is_spot(month) {
         return false;
     }
-    let Listed::At(x) = sheets::find(current, month) else {
+    let Listed::At(x) = current.find(month) else {
         return false;
     };
-    let Listed::At(y) = sheets::find(last, month) else {
+    let Listed::At(y) = last.find(month) else {
         return false;
     };
     let size = sheets::distance(x, y);
@@ -65,7 +64,7 @@ pub fn meets_in(
             if size != limit.initial {
                 return false;
             }
-            count_earlier(current, month, today, left) < grain::first_contracts(product)
+            count_earlier(current, month, date) < grain::first_contracts(product)
         }
         Condition::Holding => limit.initial <= size,
         Condition::AtExpanded => size == limit.expanded,

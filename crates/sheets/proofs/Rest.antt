@@ -83,3 +83,11 @@ module _ (s : Sheet) (i n : ℕ) (long : length (s .contracts) ≡ 16) (e : n �
           let one = rest-next s i n long e (ltb-true _ _ l) ∙ ap (λ (cs : List Contract). getD (s .contracts) i noContract ∷ cs) (rest-end s (i + 1) n long e h) in
           ap (λ (cs : List Contract). isAscending (monthsOf cs)) one
       go false l = ap (λ (cs : List Contract). isAscending (monthsOf cs)) (rest-end s i n long e (ltb-false _ _ l))
+
+-- the same of a sheet whose count fits
+module _ (s : Sheet) (i : ℕ) (long : length (s .contracts) ≡ 16) (l : s .len ≤ 16) where
+  pub fitting-next : i < s .len → drop i (contractsOf s) ≡ getD (s .contracts) i noContract ∷ drop (i + 1) (contractsOf s)
+  fitting-next h = rw (counted s l) (rest-next s i (s .len) long (omega arith) h)
+
+  pub fitting-end : s .len ≤ i → drop i (contractsOf s) ≡ []
+  fitting-end h = rw (counted s l) (rest-end s i (s .len) long (omega arith) h)

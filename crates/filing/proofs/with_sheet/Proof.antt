@@ -2,7 +2,7 @@ use borrow.Author.Needs.{needs}
 use Prim.Native.Nat.{_<_}
 use mathlib.Core.Path.{_≡_}
 use lib.ListN.{length}
-use Rattle.sheets.proofs.Left.{mapped}
+use Rattle.sheets.proofs.Rest.{mapped}
 use Rattle.filing.proofs.Filings.{filed-view}
 use Rattle.filing.proofs.with_sheet.Statement.{statement}
 use Rattle.filing.proofs.with_sheet.Tie as tie

@@ -13,25 +13,25 @@ use Rattle.lead.proofs.leading.Statement.{statement}
 use Rattle.lead.proofs.leading.Tie as tie
 
 abbrev Inv-loop : tie.InvT-loop
-Inv-loop today left condition lo hi b month found₀ next₀ p₀ found next p =
-    (lo ≤ p) × (p ≤ hi) × (found ≡ Nobody) × ClearAt (isMet b today left condition) lo p month
+Inv-loop date condition lo hi b month found₀ next₀ p₀ found next p =
+    (lo ≤ p) × (p ≤ hi) × (found ≡ Nobody) × ClearAt (isMet b date condition) lo p month
     × (nextOf (b .today) month 0 (productsFrom lo (hi - lo)) ≡ nextOf (b .today) month next (productsFrom p (hi - p)))
     × (next < 2 ^ 32)
 
 abbrev μ-loop : tie.MeasureT-loop
-μ-loop today left condition lo hi b month found₀ next₀ p₀ found next p = hi - p
+μ-loop date condition lo hi b month found₀ next₀ p₀ found next p = hi - p
 
 abbrev Inv-search : tie.InvT-search
-Inv-search today left condition lo hi b month₀ found₀ month found =
-    (found ≡ Nobody) × Clear (isMet b today left condition) lo hi month
+Inv-search date condition lo hi b month₀ found₀ month found =
+    (found ≡ Nobody) × Clear (isMet b date condition) lo hi month
 
 abbrev μ-search : tie.MeasureT-search
-μ-search today left condition lo hi b month₀ found₀ month found = 2 ^ 32 - month
+μ-search date condition lo hi b month₀ found₀ month found = 2 ^ 32 - month
 
 search-holds : tie.Need-search-holds Inv-loop μ-loop Inv-search μ-search
 search-holds c =
     let a = c .args in
-    (refl, clear-spot (a .t1) (a .today) (a .left) (a .condition) (a .lo) (a .hi) (c .pre .0) (c .pre .1) (c .pre .2))
+    (refl, clear-spot (a .t1) (a .date) (a .condition) (a .lo) (a .hi) (c .pre .0) (c .pre .1) (c .pre .2))
 
 loop-holds : tie.Need-loop-holds Inv-loop μ-loop Inv-search μ-search
 loop-holds c =
@@ -63,8 +63,8 @@ meets-in-requires c κs =
     let sound = c .before .before .before .before .before .before .pre .2 in
     (sound .today _ (omega arith), sound .last _ (omega arith))
 
-cast-t27 : tie.Need-cast-t27 Inv-loop μ-loop Inv-search μ-search
-cast-t27 c = search needs
+cast-t26 : tie.Need-cast-t26 Inv-loop μ-loop Inv-search μ-search
+cast-t26 c = search needs
 
 next-in-requires : tie.Need-next-in-requires Inv-loop μ-loop Inv-search μ-search
 next-in-requires c κs =
@@ -87,7 +87,7 @@ loop-again c =
       omega arith,
       k .loop .inv .2,
       λ q l h.
-          below-more (λ (x : ℕ). a .lo ≤ x → isMet (a .t1) (a .today) (a .left) (a .condition) x month ≡ false) (k .loop .p)
+          below-more (λ (x : ℕ). a .lo ≤ x → isMet (a .t1) (a .date) (a .condition) x month ≡ false) (k .loop .p)
           (λ x i j. k .loop .inv .3 x j i) (λ _. sym (c .before .before .meets-in .ensures) ∙ c .before .if1 .left) q h l,
       k .loop .inv .4 ∙ rw (more, c .next-in .ensures),
       c .next-in .ok,
@@ -120,7 +120,7 @@ search-again c =
     let s = k .before .before in
     let a = s .args in (
       k .loop .inv .2,
-      clear-next (a .t1) (a .today) (a .left) (a .condition) (a .lo) (a .hi) (s .pre .0) (s .pre .1) (s .pre .2) _ _
+      clear-next (a .t1) (a .date) (a .condition) (a .lo) (a .hi) (s .pre .0) (s .pre .1) (s .pre .2) _ _
           (through (c .before)) (k .before .search .inv .1) (λ q l h. k .loop .inv .3 q l (omega arith)),
     )
 
@@ -132,7 +132,7 @@ returns c =
     let a = s .args in
     sym
     (ap foundAs
-    (this-leads (a .t1) (a .today) (a .left) (a .condition) (a .lo) (a .hi) (s .pre .0) (s .pre .1) (s .pre .2) _ (k .loop .p)
+    (this-leads (a .t1) (a .date) (a .condition) (a .lo) (a .hi) (s .pre .0) (s .pre .1) (s .pre .2) _ (k .loop .p)
     (k .before .search .inv .1) (k .loop .inv .0) (omega arith) (k .loop .inv .3) (sym (c .before .meets-in .ensures) ∙ c .if1 .taken)))
 
 returns-2 : tie.Need-returns-2 Inv-loop μ-loop Inv-search μ-search
@@ -143,7 +143,7 @@ returns-2 c =
     k .loop .inv .2
     ∙ sym
     (ap foundAs
-    (none-leads (a .t1) (a .today) (a .left) (a .condition) (a .lo) (a .hi) (s .pre .0) (s .pre .1) (s .pre .2) _ _
+    (none-leads (a .t1) (a .date) (a .condition) (a .lo) (a .hi) (s .pre .0) (s .pre .1) (s .pre .2) _ _
     (through (c .before)) (c .if2 .taken) (k .before .search .inv .1) (λ q l h. k .loop .inv .3 q l (omega arith))))
 
 pub leading-spec : {M : Type 1} → statement M
@@ -164,7 +164,7 @@ leading-spec =
     element-copy-out-limit
     cast-meets-in
     meets-in-requires
-    cast-t27
+    cast-t26
     next-in-requires
     add-p
     loop-less

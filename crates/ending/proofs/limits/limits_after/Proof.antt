@@ -4,7 +4,7 @@ use Prim.Native.Nat.{_-_, _≤_}
 use lib.ListN.{getD}
 use Rattle.record.specs.State.{groupOf}
 use Rattle.record.specs.End.{isRaised}
-use Rattle.sheets.proofs.Left.{mapped}
+use Rattle.sheets.proofs.Rest.{mapped}
 use Rattle.book.specs.Book.{noLimit}
 use Rattle.book.proofs.Filled.{Filled, filled-start, filled-next, filled-end}
 use Rattle.book.proofs.Groups.{group-small}

@@ -5,7 +5,7 @@ use lib.ListN.{getD}
 use Rattle.grain.specs.Lists.{any}
 use Rattle.record.specs.End.{isAtExpanded}
 use Rattle.record.specs.History.{productsOf}
-use Rattle.sheets.proofs.Left.{mapped}
+use Rattle.sheets.proofs.Rest.{mapped}
 use Rattle.book.specs.Book.{noStanding}
 use Rattle.book.proofs.Filled.{Filled, filled-start, filled-next, filled-end}
 use Rattle.lead.specs.Lead.{movesOf}

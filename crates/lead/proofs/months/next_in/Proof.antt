@@ -4,7 +4,7 @@ use Prim.Native.Nat.{_-_, _≤_}
 use mathlib.Core.Path.{_≡_, _∙_}
 use lib.ListN.{drop}
 use Rattle.sheets.specs.Sheets.{contractsOf}
-use Rattle.sheets.proofs.Left.{mapped, left-next, left-end}
+use Rattle.sheets.proofs.Rest.{mapped, fitting-next, fitting-end}
 use Rattle.lead.specs.Search.{nextIn}
 use Rattle.lead.proofs.months.next_in.Statement.{statement}
 use Rattle.lead.proofs.months.next_in.Tie as tie
@@ -37,13 +37,13 @@ loop-less c = search needs
 loop-again : tie.Need-loop-again Inv-loop μ-loop
 loop-again c =
     let k = c .before .before .before in
-    let more = left-next (k .before .args .t1) (k .loop .i) (search mapped) (omega arith) (omega arith) in
+    let more = fitting-next (k .before .args .t1) (k .loop .i) (search mapped) (omega arith) (omega arith) in
     (omega arith, k .loop .inv .1 ∙ rw (more, c .sooner-of .ensures))
 
 returns : tie.Need-returns Inv-loop μ-loop
 returns c =
     let k = c .before in
-    rw (k .loop .inv .1, left-end (k .before .args .t1) (k .loop .i) (omega arith) (omega arith))
+    rw (k .loop .inv .1, fitting-end (k .before .args .t1) (k .loop .i) (search mapped) (omega arith) (omega arith))
 
 pub next-in-spec : {M : Type 1} → statement M
 next-in-spec =

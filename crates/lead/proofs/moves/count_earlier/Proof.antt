@@ -5,19 +5,19 @@ use mathlib.Core.Path.{_≡_, _∙_}
 use lib.ListN.{drop}
 use Rattle.grain.specs.Spot.{isSpot}
 use Rattle.sheets.specs.Sheets.{contractsOf}
-use Rattle.sheets.proofs.Left.{mapped, left-next, left-end}
+use Rattle.sheets.proofs.Rest.{mapped, fitting-next, fitting-end}
 use Rattle.lead.specs.Search.{countEarlier}
 use Rattle.lead.proofs.Earlier.{at-most-one}
 use Rattle.lead.proofs.moves.count_earlier.Statement.{statement}
 use Rattle.lead.proofs.moves.count_earlier.Tie as tie
 
 abbrev Inv-loop : tie.InvT-loop
-Inv-loop month today left s n count₀ i₀ count i =
-    let earlier = countEarlier (λ month. isSpot month today left) month in
+Inv-loop month date s n count₀ i₀ count i =
+    let earlier = countEarlier (isSpot date) month in
     (i ≤ n) × (count ≤ i) × (earlier (contractsOf s) ≡ count + earlier (drop i (contractsOf s)))
 
 abbrev μ-loop : tie.MeasureT-loop
-μ-loop month today left s n count₀ i₀ count i = n - i
+μ-loop month date s n count₀ i₀ count i = n - i
 
 loop-holds : tie.Need-loop-holds Inv-loop μ-loop
 loop-holds c = search needs
@@ -45,14 +45,14 @@ loop-less c = search needs
 loop-again : tie.Need-loop-again Inv-loop μ-loop
 loop-again c =
     let k = c .before .before .before in
-    let more = left-next (k .before .args .t1) (k .loop .i) (search mapped) (omega arith) (omega arith) in
+    let more = fitting-next (k .before .args .t1) (k .loop .i) (search mapped) (omega arith) (omega arith) in
     let one : c .one-if-earlier .result ≤ 1 = rw (c .one-if-earlier .ensures) (at-most-one _ _ _) in
     (omega arith, omega arith, k .loop .inv .2 ∙ rw (more, c .one-if-earlier .ensures) (omega arith))
 
 returns : tie.Need-returns Inv-loop μ-loop
 returns c =
     let k = c .before in
-    rw (k .loop .inv .2, left-end (k .before .args .t1) (k .loop .i) (omega arith) (omega arith)) (omega arith)
+    rw (k .loop .inv .2, fitting-end (k .before .args .t1) (k .loop .i) (search mapped) (omega arith) (omega arith)) (omega arith)
 
 pub count-earlier-spec : {M : Type 1} → statement M
 count-earlier-spec =

@@ -1,4 +1,5 @@
 use borrow.Author.Needs.{needs}
+use native.Mathlib.Omega.{arith}
 use mathlib.Core.Bool.{Bool, true, false, _&&_}
 use mathlib.Core.Path.{_≡_, refl, sym, _∙_}
 use lib.Dec.{ltb}
@@ -7,24 +8,25 @@ use Rattle.grain.specs.Spot.{isSpot}
 use Rattle.grain.specs.Products.{firstOf}
 use Rattle.record.specs.State.{settlementOn}
 use Rattle.record.specs.End.{Move}
-use Rattle.sheets.specs.Sheets.{contractsOf}
+use Rattle.sheets.specs.Sheets.{entriesOf, contractsOf}
+use Rattle.sheets.proofs.Rest.{counted}
 use Rattle.sheets.proofs.Lookups.{is-none, is-some}
 use Rattle.lead.specs.Search.{countEarlier, meetsOn}
 use Rattle.lead.proofs.moves.meets_in.Statement.{statement}
 use Rattle.lead.proofs.moves.meets_in.Tie as tie
 
-not-spot : (k : tie.After-find) → let a = k .before .before .before .args in isSpot (a .month) (a .today) (a .left) ≡ false
+not-spot : (k : tie.After-find) → let a = k .before .before .before .args in isSpot (a .date) (a .month) ≡ false
 not-spot k = sym (k .before .before .is-spot .ensures) ∙ k .before .if1 .left
 
 -- on both sheets and not spot: the contract has a move
 met : (k : tie.After-distance) (g : Move → Bool)
     → let a = k .before .before .before .before .before .before .before .before .before .before .before .args in
-    meetsOn g (λ month. isSpot month (a .today) (a .left)) (a .product) (a .limit .initial) (a .limit .expanded)
+    meetsOn g (isSpot (a .date)) (a .product) (a .limit .initial) (a .limit .expanded)
     (contractsOf (a .current)) (contractsOf (a .last)) (a .month)
     ≡ g (record {
       month = a .month;
       product = a .product;
-      isFirst = ltb (countEarlier (λ month. isSpot month (a .today) (a .left)) (a .month) (contractsOf (a .current))) (firstOf (a .product));
+      isFirst = ltb (countEarlier (isSpot (a .date)) (a .month) (contractsOf (a .current))) (firstOf (a .product));
       size = k .distance .result;
       initialLimit = a .limit .initial;
       expandedLimit = a .limit .expanded;
@@ -35,7 +37,7 @@ met k g =
     let f = h .before .before .before .before in
     let a = f .before .before .before .args in
     rw
-    (not-spot f, is-some (settlementOn (contractsOf (a .current)) (a .month)) _ (sym (f .find .ensures) ∙ h .before .before .x .given .1), is-some (settlementOn (contractsOf (a .last)) (a .month)) _ (sym (h .find2 .ensures) ∙ k .before .before .y .given .1), k .distance .ensures)
+    (not-spot f, counted (a .current) (omega arith), counted (a .last) (omega arith), is-some (settlementOn (entriesOf (a .current)) (a .month)) _ (sym (f .find .ensures) ∙ h .before .before .x .given .1), is-some (settlementOn (entriesOf (a .last)) (a .month)) _ (sym (h .find2 .ensures) ∙ k .before .before .y .given .1), k .distance .ensures)
 
 is-spot-requires : tie.Need-is-spot-requires
 is-spot-requires c κs = search needs
@@ -59,7 +61,7 @@ returns-2 c =
     let k = c .before .before in
     let a = k .before .before .before .args in
     rw
-    (not-spot k, is-none (settlementOn (contractsOf (a .current)) (a .month)) (sym (k .find .ensures) ∙ c .enum-told .given .1))
+    (not-spot k, counted (a .current) (omega arith), is-none (settlementOn (entriesOf (a .current)) (a .month)) (sym (k .find .ensures) ∙ c .enum-told .given .1))
 
 find-requires-2 : tie.Need-find-requires-2
 find-requires-2 c κs = search needs
@@ -77,7 +79,7 @@ returns-3 c =
     let f = h .before .before .before .before in
     let a = f .before .before .before .args in
     rw
-    (not-spot f, is-some (settlementOn (contractsOf (a .current)) (a .month)) _ (sym (f .find .ensures) ∙ h .before .before .x .given .1), is-none (settlementOn (contractsOf (a .last)) (a .month)) (sym (h .find2 .ensures) ∙ c .enum-told2 .given .1))
+    (not-spot f, counted (a .current) (omega arith), counted (a .last) (omega arith), is-some (settlementOn (entriesOf (a .current)) (a .month)) _ (sym (f .find .ensures) ∙ h .before .before .x .given .1), is-none (settlementOn (entriesOf (a .last)) (a .month)) (sym (h .find2 .ensures) ∙ c .enum-told2 .given .1))
 
 distance-requires : tie.Need-distance-requires
 distance-requires c κs = search needs
@@ -98,7 +100,7 @@ returns-4 : tie.Need-returns-4
 returns-4 c =
     let k = c .before .before in
     let a = k .before .before .before .before .before .before .before .before .before .before .before .before .before .args in
-    let first = ltb (countEarlier (λ month. isSpot month (a .today) (a .left)) (a .month) (contractsOf (a .current))) (firstOf (a .product)) in
+    let first = ltb (countEarlier (isSpot (a .date)) (a .month) (contractsOf (a .current))) (firstOf (a .product)) in
     rw (met (k .before .before) _, k .enum-told3 .given .1, ne-eqb _ _ (c .if2 .taken)) (without first)
 
 count-earlier-requires : tie.Need-count-earlier-requires

@@ -8,7 +8,7 @@ use Rattle.opening.specs.Opens.{limitOn}
 use Prim.Native.Nat.{_<_}
 use mathlib.Core.Path.{_≡_}
 use lib.ListN.{length}
-use Rattle.sheets.proofs.Left.{mapped}
+use Rattle.sheets.proofs.Rest.{mapped}
 use Rattle.opening.proofs.FilledEight.{unfilled}
 use Rattle.opening.proofs.renewal.limits_on.Statement.{statement}
 use Rattle.opening.proofs.renewal.limits_on.Tie as tie
