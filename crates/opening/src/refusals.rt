@@ -32,10 +32,10 @@ fn is_not_later(last: Day, d: Day) -> bool
 }
 
 // 0 where nothing refuses it.
-pub fn refusal_of(b: Book, d: Day) -> u32
+pub(crate) fn refusal_of(b: Book, d: Day) -> u32
     ensures { λ r. ⌜ r ≡ orElse (refusal (view b) (opening d)) 0 ⌝ }
 {
-    if !book::is_sound(b) {
+    if !b.is_sound() {
         return UNSOUND;
     }
     if b.trading {

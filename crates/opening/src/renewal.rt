@@ -16,17 +16,16 @@ use grain::SeasonLimits;
 use windows::Windows;
 
 fn is_renewed(next: bool, w: Windows, p: usize) -> bool
-    requires { ⌜ p < 8 ⌝ }
     ensures { λ r. ⌜ r ≡ isRenewedBy next (windowOf w p) ⌝ }
 {
     if !next {
         return false;
     }
-    windows::is_full(w, p)
+    w.is_full(p)
 }
 
 // For each product, whether it gets its season limits.
-pub fn renewed_on(next: bool, w: Windows) -> [bool; 8]
+pub(crate) fn renewed_on(next: bool, w: Windows) -> [bool; 8]
     ensures { λ r. ⌜ r ≡ map (λ p. isRenewedBy next (windowOf w p)) eight ⌝ }
 {
     let mut renewed = [false; 8];
@@ -43,13 +42,13 @@ fn limit_on(next: bool, w: Windows, p: usize, limit: Limit) -> Limit
     if !is_renewed(next, w, p) {
         return limit;
     }
-    let SeasonLimits::Are { initial, expanded } = windows::season_limits_of(w, p) else {
+    let SeasonLimits::Are { initial, expanded } = w.season_limits(p) else {
         return limit;
     };
     Limit { initial, expanded }
 }
 
-pub fn limits_on(next: bool, b: Book) -> [Limit; 8]
+pub(crate) fn limits_on(next: bool, b: Book) -> [Limit; 8]
     requires { ⌜ ((p : ℕ) → p < 8 → every (isSettlement p) (windowOf (b .windows) p) ≡ true) ⌝ }
     ensures { λ r. ⌜ ((p : ℕ) → p < 8 → getD r p noLimit ≡ limitOn next (windowOf (b .windows) p) p (limitIn b p)) ⌝ }
 {
@@ -63,11 +62,11 @@ pub fn limits_on(next: bool, b: Book) -> [Limit; 8]
 }
 
 // Every window is emptied where the season is another.
-pub fn windows_on(other: bool, w: Windows) -> Windows
+pub(crate) fn windows_on(other: bool, w: Windows) -> Windows
     ensures { λ r. ⌜ ((p : ℕ) → windowOf r p ≡ cond other [] (windowOf w p)) ⌝ }
 {
     if other {
-        return windows::no_windows();
+        return Windows::none();
     }
     w
 }

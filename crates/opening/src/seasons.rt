@@ -24,8 +24,7 @@ fn season_of(d: Day) -> u32
 }
 
 // Exactly one season after that of the last opened day; the first opening has none before it.
-// This and the next are pub for an accepted opening alone, which has tested both days.
-pub fn is_next_season(last: Day, d: Day) -> bool
+pub(crate) fn is_next_season(last: Day, d: Day) -> bool
     requires { ⌜ NoneOrTrue last × (isTrueDay d ≡ true) ⌝ }
     ensures { λ r. ⌜ r ≡ isNextSeason (openedOf last) d ⌝ }
 {
@@ -35,7 +34,7 @@ pub fn is_next_season(last: Day, d: Day) -> bool
     season_of(d) == season_of(last) + 1
 }
 
-pub fn is_other_season(last: Day, d: Day) -> bool
+pub(crate) fn is_other_season(last: Day, d: Day) -> bool
     requires { ⌜ NoneOrTrue last × (isTrueDay d ≡ true) ⌝ }
     ensures { λ r. ⌜ r ≡ isOtherSeason (openedOf last) d ⌝ }
 {

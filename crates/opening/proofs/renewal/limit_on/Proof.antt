@@ -9,7 +9,7 @@ use Rattle.grain.specs.declared.margin.SeasonLimits.the-variants.{Are}
 use Rattle.grain.proofs.Outcomes.{season-limits-same}
 use Rattle.windows.specs.Windows.{windowOf}
 use Rattle.opening.specs.Opens.{isRenewedBy}
-use Rattle.opening.proofs.FullWindows.{full-window, full-size, full-limits}
+use Rattle.opening.proofs.FullWindows.{full-window, full-limits}
 use Rattle.opening.proofs.renewal.limit_on.Statement.{statement}
 use Rattle.opening.proofs.renewal.limit_on.Tie as tie
 
@@ -21,25 +21,23 @@ renewed : (c : tie.Else1) → isRenewedBy (c .before .before .args .next) (windo
 renewed c = sym (c .before .is-renewed .ensures) ∙ not-false _ (c .if1 .left)
 
 -- the window is full, and so the answer is its limits
-limits-are : (c : tie.After-season-limits-of)
-    → c .season-limits-of .result
+limits-are : (c : tie.After-season-limits)
+    → c .season-limits .result
     ≡ Are (seasonOf (c .before .before .before .args .p) (windowOf (c .before .before .before .args .w) (c .before .before .before .args .p)))
     (expandedOf (c .before .before .before .args .p) (seasonOf (c .before .before .before .args .p) (windowOf (c .before .before .before .args .w) (c .before .before .before .args .p))))
 limits-are c =
     let s = c .before .before .before in
     let window = windowOf (s .args .w) (s .args .p) in
     season-limits-same _ _
-    (c .season-limits-of .ensures
+    (c .season-limits .ensures
     ∙ full-limits (s .args .p) window (s .pre .0) (full-window (s .args .next) window (renewed (c .before))) (s .pre .1))
 
 returns : tie.Need-returns
 returns c =
     rw (sym (c .before .is-renewed .ensures) ∙ not-true _ (c .if1 .taken))
 
-season-limits-of-requires : tie.Need-season-limits-of-requires
-season-limits-of-requires c κs =
-    let s = c .before .before in
-    (s .pre .0, full-size (s .args .next) (s .args .w) (s .args .p) (search needs) (s .pre .0) (renewed c))
+season-limits-requires : tie.Need-season-limits-requires
+season-limits-requires c κs = search needs
 
 enum-known-initial : tie.Need-enum-known-initial
 enum-known-initial c = search needs
@@ -61,7 +59,7 @@ limit-on-spec =
     (tie.spec
     is-renewed-requires
     returns
-    season-limits-of-requires
+    season-limits-requires
     enum-known-initial
     returns-2
     returns-3)
