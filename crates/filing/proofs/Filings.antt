@@ -7,7 +7,7 @@ use mathlib.Core.Option.{Option, some, none}
 use native.Mathlib.Omega.{arith}
 use lib.Dec.{ltb, eqb}
 use lib.ListN.{length, getD, set}
-use lib.Seq.{getD-set-same, getD-set-other}
+use lib.Seq.{take-all, getD-set-same, getD-set-other}
 use borrow.Author.Tests.{not-false, eqb-true, eqb-false, ltb-true, ltb-false, ne-eqb}
 use Rattle.grain.specs.Refusals.{badPrice}
 use Rattle.grain.specs.Lists.{every, _and_}
@@ -15,13 +15,15 @@ use Rattle.grain.proofs.Tests.{neither}
 use Rattle.record.specs.declared.Contract.{Contract}
 use Rattle.record.specs.Choices.{orElse}
 use Rattle.record.specs.Refusals.{Test, when, first, badMonth, contractAbsent, beyondLimit}
-use Rattle.record.specs.State.{Record, dayOf, isSpotOn, groupOf, groupAt, productIn, limitIn, sheetOr}
+use Rattle.record.specs.State.{Record, dayOf, monthOf, isSpotOn, groupOf, groupAt, productIn, limitIn, sheetOr}
 use Rattle.record.specs.Sheet.{contracts, isMisshapen, hasBadMonth, hasBadSettlement, lacksContract, isBeyond, sheetTests, fileProduct, fileGroup}
 use Rattle.record.specs.Sound.{isSound}
 use Rattle.record.specs.Record.{sheet, tests, refusal, next, nextCommon, nextGroup}
 use Rattle.record.proofs.Cleared.{cleared}
 use Rattle.sheets.specs.declared.Sheet.{Sheet}
-use Rattle.sheets.specs.Sheets.{contractsOf, sheetIn, monthsOf, settlementsOf}
+use Rattle.sheets.specs.Sheets.{entriesOf, sheetIn, monthsOf, settlementsOf, SheetOf}
+use Rattle.sheets.proofs.Rest.{counted}
+use Rattle.sheets.proofs.Fills.{contracts-length}
 use Rattle.book.specs.declared.Book.{Book}
 use Rattle.book.specs.Book.{noSheet, todayIn, viewProduct, viewGroup, viewCommon, view}
 use Rattle.book.proofs.Numbered.{none-by}
@@ -56,6 +58,17 @@ settlements-are [] (s ∷ ss) e = absurd (omega arith)
 settlements-are (m ∷ ms) [] e = absurd (omega arith)
 settlements-are (m ∷ ms) (s ∷ ss) e = ap (λ (l : List ℕ). s ∷ l) (settlements-are ms ss (omega arith))
 
+-- the sheet that two arrays of a good shape make
+pub record Made (ms ss : List ℕ) (s : Sheet) : Type 0 where
+  pub len : s .len ≡ length ms
+  pub entries : entriesOf s ≡ contracts ms ss
+
+pub made : (ms ss : List ℕ) (s : Sheet) → SheetOf ms ss s → Shape ms ss → Made ms ss s
+made ms ss s of e =
+    let as-long : length (contracts ms ss) ≡ length ms = omega (arith, contracts-length ms ss, e .same) in
+    let all = take-all 16 (contracts ms ss) (omega (arith, e .fits)) in
+    record { len = of .len ∙ ap length all ∙ as-long; entries = of .entries ∙ all }
+
 -- ---- the refusals in two parts
 abbrev orLater : Option ℕ → Option ℕ → Option ℕ
 orLater (some n) o = some n
@@ -75,7 +88,7 @@ module _ (r : Record) (p : ℕ) (ms ss : List ℕ) where
   later =
       let d = dayOf (r .common) in
       let g = groupAt r (groupOf p) in
-      when (hasBadMonth d p ms) badMonth
+      when (hasBadMonth (monthOf d) p ms) badMonth
       ∷ when (hasBadSettlement p ss) badPrice
       ∷ when (lacksContract (isSpotOn d) (sheetOr (productIn g p .last)) (contracts ms ss)) contractAbsent
       ∷ when (isBeyond (isSpotOn d) (limitIn g p) (sheetOr (productIn g p .last)) (contracts ms ss)) beyondLimit
@@ -131,9 +144,9 @@ filedBook b p s =
       trading = b .trading;
     }
 
-pub sheet-in : (s : Sheet) (cs : List Contract) → (s .len ≡ 0 → ⊥) → contractsOf s ≡ cs → sheetIn s ≡ some cs
+pub sheet-in : (s : Sheet) (cs : List Contract) → (s .len ≡ 0 → ⊥) → s .len ≤ 16 → entriesOf s ≡ cs → sheetIn s ≡ some cs
 unfolding sheetIn
-sheet-in s cs n e = rw (ne-eqb (s .len) 0 n, e)
+sheet-in s cs n l e = rw (ne-eqb (s .len) 0 n, counted s l, e)
 
 module _ (b : Book) (p : ℕ) (s : Sheet) (ms ss : List ℕ) (l : p < length (b .today)) (e : sheetIn s ≡ some (contracts ms ss)) where
   today-after : (q : ℕ) → sheetIn (getD (set (b .today) p s) q noSheet) ≡ cond (eqb q p) (some (contracts ms ss)) (sheetIn (todayIn b q))

@@ -7,7 +7,7 @@ use Rattle.grain.specs.Refusals.{noSuchProduct, misshapen, badPrice}
 use Rattle.record.specs.declared.Contract.{Contract}
 use Rattle.record.specs.Choices.{isSome}
 use Rattle.record.specs.Refusals.{Test, when, unsound, wrongPhase, alreadyIn, badMonth, contractAbsent, beyondLimit}
-use Rattle.record.specs.State.{Record, dayOf, isSpotOn, groupOf, groupAt, productIn, limitIn, sheetOr}
+use Rattle.record.specs.State.{Record, dayOf, monthOf, isSpotOn, groupOf, groupAt, productIn, limitIn, sheetOr}
 use Rattle.record.specs.Sheet.{isMisshapen, hasBadMonth, hasBadSettlement, lacksContract, isBeyond}
 use Rattle.record.specs.Sound.{isSound}
 use Rattle.record.specs.Record.{sheet, Answer, filed}
@@ -38,7 +38,7 @@ abbrev pub contractTests : Record → ℕ → List Contract → List Test
 contractTests r p s =
     let d = dayOf (r .common) in
     let g = groupAt r (groupOf p) in
-    when (hasBadMonth d p (monthsOf s)) badMonth
+    when (hasBadMonth (monthOf d) p (monthsOf s)) badMonth
     ∷ when (hasBadSettlement p (settlementsOf s)) badPrice
     ∷ when (lacksContract (isSpotOn d) (sheetOr (productIn g p .last)) s) contractAbsent
     ∷ when (isBeyond (isSpotOn d) (limitIn g p) (sheetOr (productIn g p .last)) s) beyondLimit

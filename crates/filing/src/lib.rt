@@ -4,11 +4,13 @@ ghost use mathlib.Core.List.{List};
 ghost use mathlib.Core.Option.{some};
 ghost use Prim.Native.Nat.{ℕ, _<_};
 ghost use Rattle.record.specs.Sheet.{contracts};
-ghost use Rattle.record.specs.Record.{next, sheet as call};
+ghost use Rattle.record.specs.Record.{next as nextState, sheet as call};
 ghost use Rattle.sheets.specs.Sheets.{sheetIn};
 ghost use Rattle.book.specs.Book.{view};
 ghost use Rattle.filing.specs.Files.{Files};
 use book::Book;
+use book::Dated;
+use record::refusals::UNSOUND;
 use sheets::Sheet;
 
 mod refusals;
@@ -32,9 +34,17 @@ pub fn sheet(b: Book, product: u32, months: &[u32], settlements: &[u32]) -> File
             book: b,
         };
     }
+    let day = b.day;
+    // A sound book has a date on every open day.
+    let Dated::On(date) = book::trade_date(day) else {
+        return Filed {
+            refusal: UNSOUND,
+            book: b,
+        };
+    };
     let p = product as usize;
-    let s = sheets::sheet_of(months, settlements);
-    let late = contract_refusal(b, p, s);
+    let s = Sheet::of(months, settlements);
+    let late = contract_refusal(b, date, p, s);
     if late != 0 {
         return Filed {
             refusal: late,
@@ -49,11 +59,11 @@ pub fn sheet(b: Book, product: u32, months: &[u32], settlements: &[u32]) -> File
 
 fn with_sheet(b: Book, p: usize, s: Sheet) -> Book
     requires { ⌜ p < 8 ⌝ }
-    ensures { λ r. ⌜ ((ms ss : List ℕ) → sheetIn s ≡ some (contracts ms ss) → view r ≡ next (view b) (call p ms ss)) ⌝ }
+    ensures { λ r. ⌜ ((ms ss : List ℕ) → sheetIn s ≡ some (contracts ms ss) → view r ≡ nextState (view b) (call p ms ss)) ⌝ }
 {
     let mut today = b.today;
     today[p] = s;
-    let mut n = b;
-    n.today = today;
-    n
+    let mut next = b;
+    next.today = today;
+    next
 }

@@ -1,17 +1,17 @@
 // What refuses a sheet: 1, 2, 5, 11, 6, 7, 8, 9, 10 in this order, each test over all contracts before the next.
 ghost use mathlib.Core.Path.{_≡_};
-ghost use mathlib.Core.Bool.{true, not};
-ghost use lib.Dec.{leb};
-ghost use Rattle.grain.specs.Lists.{_and_, every, isAscending};
-ghost use Rattle.grain.specs.Products.{isTraded};
-ghost use Prim.Native.Nat.{_<_, _≤_};
+ghost use mathlib.Core.Bool.{true};
+ghost use Prim.Native.Nat.{_<_};
 ghost use Rattle.record.specs.Choices.{orElse};
 ghost use Rattle.record.specs.Refusals.{first};
+ghost use Rattle.record.specs.State.{tradeDate};
+ghost use Rattle.record.specs.Sheet.{hasBadMonth};
 ghost use Rattle.record.specs.Sound.{isSound};
-ghost use Rattle.sheets.specs.Sheets.{contractsOf, monthsOf};
+ghost use Rattle.sheets.specs.Sheets.{entriesOf, monthsOf};
 ghost use Rattle.book.specs.Book.{view};
 ghost use Rattle.filing.specs.Files.{earlyTests, contractTests};
 use book::Book;
+use grain::TradeDate;
 use grain::refusals::BAD_PRICE;
 use grain::refusals::MISSHAPEN;
 use grain::refusals::NO_SUCH_PRODUCT;
@@ -24,10 +24,10 @@ use record::refusals::WRONG_PHASE;
 use sheets::Sheet;
 
 // Those before the contracts are looked at; 0 where none refuses it.
-pub fn early_refusal(b: Book, product: u32, months: &[u32], settlements: &[u32]) -> u32
+pub(crate) fn early_refusal(b: Book, product: u32, months: &[u32], settlements: &[u32]) -> u32
     ensures { λ r. ⌜ r ≡ orElse (first (earlyTests (view b) product (now (months .entry)) (now (settlements .entry)))) 0 ⌝ }
 {
-    if !book::is_sound(b) {
+    if !b.is_sound() {
         return UNSOUND;
     }
     if !b.trading {
@@ -47,40 +47,36 @@ pub fn early_refusal(b: Book, product: u32, months: &[u32], settlements: &[u32])
     0
 }
 
-// today is the contract month of the date.
-fn has_bad_month(today: u32, product: u32, s: Sheet) -> bool
-    requires { ⌜ s .len ≤ 16 ⌝ }
-    ensures { λ r. ⌜ r ≡ not (isAscending (monthsOf (contractsOf s)) and every (isTraded product) (monthsOf (contractsOf s)) and every (leb today) (monthsOf (contractsOf s))) ⌝ }
+fn has_bad_month(date: TradeDate, product: u32, s: Sheet) -> bool
+    ensures { λ r. ⌜ r ≡ hasBadMonth (date .month) product (monthsOf (entriesOf s)) ⌝ }
 {
-    if !sheets::is_ascending(s) {
+    if !s.is_ascending() {
         return true;
     }
-    if !sheets::are_traded(product, s) {
+    if !s.is_traded(product) {
         return true;
     }
-    !sheets::starts_from(today, s)
+    !s.starts_from(date.month)
 }
 
 // Those that look at the contracts; 0 where none refuses it.
-pub fn contract_refusal(b: Book, p: usize, s: Sheet) -> u32
-    requires { ⌜ (p < 8) × (s .len ≤ 16) × (isSound (view b) ≡ true) × (b .trading ≡ true) ⌝ }
-    ensures { λ r. ⌜ r ≡ orElse (first (contractTests (view b) p (contractsOf s))) 0 ⌝ }
+pub(crate) fn contract_refusal(b: Book, date: TradeDate, p: usize, s: Sheet) -> u32
+    requires { ⌜ (p < 8) × (isSound (view b) ≡ true) × (date ≡ tradeDate (b .day)) ⌝ }
+    ensures { λ r. ⌜ r ≡ orElse (first (contractTests (view b) p (entriesOf s))) 0 ⌝ }
 {
     let product = p as u32;
-    let day = b.day;
-    let today = book::contract_month(day);
-    if has_bad_month(today, product, s) {
+    if has_bad_month(date, product, s) {
         return BAD_MONTH;
     }
-    if !sheets::are_settlements(product, s) {
+    if !s.is_settled(product) {
         return BAD_PRICE;
     }
     let lasts = b.last;
     let last = lasts[p];
-    if sheets::lacks_contract(today, day.left, last, s) {
+    if s.lacks_contract(date, last) {
         return CONTRACT_ABSENT;
     }
-    if sheets::is_beyond(today, day.left, book::limit_of(b, p), last, s) {
+    if s.is_beyond(date, b.limit_of(p), last) {
         return BEYOND_LIMIT;
     }
     0

@@ -9,7 +9,7 @@ use Rattle.grain.specs.Lists.{_and_, every, any}
 use Rattle.grain.proofs.Tests.{and-left, and-right, both}
 use Rattle.grain.proofs.Every.{every-map, every-mapped, every-unless}
 use Rattle.record.specs.Choices.{isSome}
-use Rattle.record.specs.State.{Day, Sheet, Product, Group, Common, Record, dayOf}
+use Rattle.record.specs.State.{Day, Sheet, Product, Group, Common, Record, dayOf, monthOf}
 use Rattle.record.specs.Opening.{isTrueDay, openingTests, openProduct, openGroup}
 use Rattle.record.specs.Sheet.{contracts, sheetTests, fileProduct, fileGroup}
 use Rattle.record.specs.End.{groupEvent, endProduct, endGroup}
@@ -123,6 +123,6 @@ accepted-sound r (opening d) e t = facts-sound _ (opened-sound r d (not-false _ 
 accepted-sound r (sheet p ms ss) e t =
     facts-sound _
     (filed-sound r p ms ss (not-false _ (e .0))
-    (sheet-passed (dayOf (r .common)) p ms ss (e .1 .1 .1 .0) (e .1 .1 .1 .1 .0) (e .1 .1 .1 .1 .1 .0)) (facts r t))
+    (sheet-passed (monthOf (dayOf (r .common))) p ms ss (e .1 .1 .1 .0) (e .1 .1 .1 .1 .0) (e .1 .1 .1 .1 .1 .0)) (facts r t))
 accepted-sound r end e t = facts-sound _ (ended-sound r (not-false _ (e .0)) (e .1 .0) (facts r t))
 accepted-sound r (check p size month price) e t = rw (check-same r p size month price) t

@@ -11,7 +11,7 @@ use borrow.Author.Tests.{eqb-true, eqb-false, ltb-false, not-false, le-leb}
 use Rattle.grain.specs.Lists.{every}
 use Rattle.grain.specs.Prices.{isSettlement}
 use Rattle.grain.proofs.Tests.{and-left, and-right, both, neither}
-use Rattle.record.specs.State.{Day, Contract, Sheet, sheetOr}
+use Rattle.record.specs.State.{Contract, Sheet, sheetOr}
 use Rattle.record.specs.Sheet.{contracts, isMisshapen, hasBadMonth, hasBadSettlement}
 use Rattle.record.specs.Sound.{isSoundSheet}
 
@@ -52,10 +52,10 @@ shape ms ss e =
       most = ltb-false 16 _ (long .1);
     }
 
-pub sheet-passed : (d : Day) (p : ℕ) (ms ss : List ℕ) → isMisshapen ms ss ≡ false → hasBadMonth d p ms ≡ false
+pub sheet-passed : (month p : ℕ) (ms ss : List ℕ) → isMisshapen ms ss ≡ false → hasBadMonth month p ms ≡ false
     → hasBadSettlement p ss ≡ false → isSoundSheet p (some (contracts ms ss)) ≡ true
 unfolding hasBadMonth hasBadSettlement isSoundSheet
-sheet-passed d p ms ss e₆ e₇ e₈ =
+sheet-passed month p ms ss e₆ e₇ e₈ =
     let s = shape ms ss e₆ in
     let q = parallel ms ss (s .equal) in
     let long : length (contracts ms ss) ≡ length ms = simp length-map at (ap length (q .months)) in

@@ -11,7 +11,7 @@ use Rattle.grain.specs.Prices.{isSettlement}
 use Rattle.grain.specs.Refusals.{misshapen, badPrice}
 use Rattle.record.specs.Choices.{isSome}
 use Rattle.record.specs.Refusals.{Test, when, alreadyIn, badMonth, contractAbsent, beyondLimit}
-use Rattle.record.specs.State.{Day, Contract, Sheet, Product, Group, Common, dayOf, monthOf, isSpotOn, productIn, limitIn, sheetOr, settlementOn}
+use Rattle.record.specs.State.{Contract, Sheet, Product, Group, Common, dayOf, monthOf, isSpotOn, productIn, limitIn, sheetOr, settlementOn}
 
 -- the two arrays as contracts
 abbrev pub contracts : List ℕ → List ℕ → Sheet
@@ -22,8 +22,9 @@ contracts (m ∷ ms) (s ∷ ss) = record { month = m; settlement = s } ∷ contr
 unfoldable pub isMisshapen : List ℕ → List ℕ → Bool
 isMisshapen ms ss = not (eqb (length ms) (length ss)) || eqb (length ms) 0 || ltb 16 (length ms)
 
-unfoldable pub hasBadMonth : Day → ℕ → List ℕ → Bool
-hasBadMonth d p ms = not (isAscending ms and every (isTraded p) ms and every (leb (monthOf d)) ms)
+-- by the contract month of the date
+unfoldable pub hasBadMonth : ℕ → ℕ → List ℕ → Bool
+hasBadMonth month p ms = not (isAscending ms and every (isTraded p) ms and every (leb month) ms)
 
 unfoldable pub hasBadSettlement : ℕ → List ℕ → Bool
 hasBadSettlement p ss = not (every (isSettlement p) ss)
@@ -55,7 +56,7 @@ sheetTests c g p ms ss =
     let q = productIn g p in
     when (isSome (q .today)) alreadyIn
     ∷ when (isMisshapen ms ss) misshapen
-    ∷ when (hasBadMonth d p ms) badMonth
+    ∷ when (hasBadMonth (monthOf d) p ms) badMonth
     ∷ when (hasBadSettlement p ss) badPrice
     ∷ when (lacksContract (isSpotOn d) (sheetOr (q .last)) (contracts ms ss)) contractAbsent
     ∷ when (isBeyond (isSpotOn d) (limitIn g p) (sheetOr (q .last)) (contracts ms ss)) beyondLimit
