@@ -1,5 +1,4 @@
 use borrow.Author.Needs.{needs}
-use native.Mathlib.Omega.{arith}
 use mathlib.Core.List.{append-assoc}
 use Rattle.season.specs.LineText.{lineText}
 use Rattle.season.proofs.text.refused_text.Statement.{statement}
