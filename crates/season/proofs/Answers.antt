@@ -9,7 +9,7 @@ use Rattle.grain.specs.Lists.{every}
 use Rattle.grain.specs.Products.{isProduct}
 use Rattle.grain.specs.Prices.{isSettlement}
 use Rattle.grain.specs.Amounts.{expandedOf, seasonOf}
-use Rattle.grain.specs.Margin.{Outcome, refused, gives, seasonLimits}
+use Rattle.grain.specs.Margin.{refused, gives, seasonLimits}
 use Rattle.season.specs.SeasonFile.{withProduct}
 
 by-test : (b : Bool) (p : ℕ) (values : List ℕ)

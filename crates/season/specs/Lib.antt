@@ -1,1 +1,2 @@
 pub mod SeasonFile
+pub mod LineText

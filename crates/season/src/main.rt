@@ -1,35 +1,26 @@
 // Reads a season file from standard input and writes the product with its season limits, or the refusal.
+ghost use Rattle.season.specs.SeasonFile.{seasonLine};
+ghost use Rattle.season.specs.LineText.{lineText, Holds};
 use libc::STDIN_FILENO;
 use libc::STDOUT_FILENO;
 
 mod file;
+mod text;
 
-use file::Line;
+use text::Text;
+
+// What is written for a file, to the byte.
+fn answer_to(file: &[u8]) -> Text
+    ensures { λ r. ⌜ Holds r (lineText (seasonLine (now (file .entry)))) ⌝ }
+{
+    text::text_of(file::line_of(file))
+}
 
 // A season file is 368 bytes long, so one byte more tells a longer input; proofs/Reading.antt shows that no further byte counts.
 fn main() {
     let mut buffer = [0u8; 369];
     let n = io::read_full(STDIN_FILENO, &mut buffer);
-    write_line(file::line_of(&buffer[..n]));
-}
-
-fn write_line(line: Line) {
-    match line {
-        Line::Limits {
-            product,
-            initial,
-            expanded,
-        } => {
-            io::print_decimal(STDOUT_FILENO, product as u64);
-            io::write_all(STDOUT_FILENO, b" ");
-            io::print_decimal(STDOUT_FILENO, initial as u64);
-            io::write_all(STDOUT_FILENO, b" ");
-            io::print_decimal(STDOUT_FILENO, expanded as u64);
-        }
-        Line::Refused(number) => {
-            io::write_all(STDOUT_FILENO, b"refused ");
-            io::print_decimal(STDOUT_FILENO, number as u64);
-        }
-    }
-    io::write_all(STDOUT_FILENO, b"\n");
+    let answer = answer_to(&buffer[..n]);
+    let bytes = answer.bytes;
+    io::write_all(STDOUT_FILENO, &bytes[..answer.len]);
 }
