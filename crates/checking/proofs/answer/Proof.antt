@@ -7,7 +7,7 @@ use Rattle.record.specs.State.{groupOf, groupAt}
 use Rattle.record.specs.Check.{listed}
 use Rattle.sheets.proofs.Lookups.{is-none, is-some}
 use Rattle.book.specs.Book.{view}
-use Rattle.book.proofs.SoundFacts.{open-true, day-in}
+use Rattle.book.proofs.SoundFacts.{day-in}
 use Rattle.grain.specs.Prices.{isOnTick}
 use Rattle.grain.specs.Products.{tickOf}
 use Rattle.grain.specs.Check.{verdict}
@@ -32,7 +32,7 @@ offered c =
 
 listed-requires : tie.Need-listed-requires
 listed-requires c κs =
-    (offered c, c .before .before .pre .0, c .before .before .pre .1)
+    (offered c, c .before .before .pre .0, c .before .before .pre .2)
 
 enum-known-settlement : tie.Need-enum-known-settlement
 enum-known-settlement c = search needs
@@ -69,34 +69,28 @@ returns-3 c =
     (λ e. k .before .before .before .before .if1 .left (k .before .before .before .before .before .tick .ensures ∙ e))
     _ (found k) (sym (priced (c .before)) ∙ not-true _ (c .if2 .taken))
 
-contract-month-requires : tie.Need-contract-month-requires
-contract-month-requires c κs =
-    let s = c .before .before .before .before .before .before .before .before .before in
-    open-true (s .args .b) (s .pre .0) (s .pre .1)
-
 is-spot-requires : tie.Need-is-spot-requires
 is-spot-requires c κs = search needs
 
 limit-of-requires : tie.Need-limit-of-requires
-limit-of-requires c κs =
-    offered (c .before .before .before .before .before .before .before .before .before)
+limit-of-requires c κs = search needs
 
 judge-requires : tie.Need-judge-requires
 judge-requires c κs = search needs
 
 returns-4 : tie.Need-returns-4
 returns-4 c =
-    let day = c .before .before .before .before in
-    let k = day .before .before .before in
+    let j = c .before .before .before in
+    let k = j .before .before in
     let s = k .before .before .before .before .before .before in
     let spot : c .before .before .is-spot .result ≡ isSpotOn (dayOf (view (s .args .b) .common)) (s .args .month) =
-    rw (day-in (s .args .b)) (c .before .before .is-spot .ensures ∙ rw (c .before .before .before .contract-month .ensures)) in
+    rw (day-in (s .args .b)) (c .before .before .is-spot .ensures ∙ rw (s .pre .2)) in
     let is : c .judge .result ≡ verdict (isSpotOn (dayOf (view (s .args .b) .common)) (s .args .month)) (k .before .settlement .given .0 .0) (limitIn (groupAt (view (s .args .b)) (groupOf (s .args .product))) (s .args .product)) (s .args .price) =
     c .judge .ensures ∙ rw (spot, c .before .limit-of .ensures) in
     rw is
     (judged (s .args .b) (s .args .product) (s .args .size) (s .args .month) (s .args .price) (s .pre .0) (s .pre .1)
     (λ e. k .before .before .before .before .if1 .left (k .before .before .before .before .before .tick .ensures ∙ e))
-    _ (found k) (sym (priced (day .before .before)) ∙ not-false _ (day .before .if2 .left)))
+    _ (found k) (sym (priced (j .before)) ∙ not-false _ (j .if2 .left)))
 
 pub answer-spec : {M : Type 1} → statement M
 answer-spec =
@@ -110,7 +104,6 @@ answer-spec =
     returns-2
     is-on-tick-requires
     returns-3
-    contract-month-requires
     is-spot-requires
     limit-of-requires
     judge-requires
