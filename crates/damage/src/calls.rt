@@ -3,9 +3,9 @@ ghost use Prim.Native.Nat.{_<_, _^_};
 use crate::books::filed;
 use book::Book;
 use checking::Checked;
-use ending::GroupEvent;
 use grain::Verdict;
 use record::Event;
+use record::GroupEvent;
 use record::Lead;
 
 pub struct Answers {

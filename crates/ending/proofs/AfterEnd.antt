@@ -14,10 +14,9 @@ use Rattle.grain.proofs.Below.{below}
 use Rattle.record.specs.declared.Day.{Day}
 use Rattle.record.specs.declared.Event.{Event}
 use Rattle.record.specs.declared.Event.the-variants.{Quiet, Triggered, Held, Reverted, Raised}
-use Rattle.record.specs.State.{Product, Group, groupTable, groupOf, dayOf, monthOf, sheetOr}
+use Rattle.record.specs.State.{Product, Group, groupTable, groupOf, dayOf, tradeDate}
 use Rattle.record.specs.Sound.{isExpanded}
 use Rattle.record.specs.End.{Move, isAtExpanded, groupMoves, groupEvent, eventOf, levelAfter, markAfter, isRaised, endProduct, endGroup}
-use Rattle.record.specs.Window.{windowAfter}
 use Rattle.record.specs.History.{productsOf}
 use Rattle.record.specs.Record.{end, ended, answer, next, nextCommon, nextGroup}
 use Rattle.sheets.specs.Sheets.{sheetIn}
@@ -29,26 +28,26 @@ use Rattle.book.specs.Soundness.{six}
 use Rattle.book.proofs.SoundFacts.{day-is}
 use Rattle.book.proofs.Views.{next-view}
 use Rattle.lead.specs.Lead.{movesOf}
-use Rattle.ending.specs.declared.GroupEvent.{GroupEvent}
-use Rattle.ending.specs.Ends.{quiet, eventsOf, eventIn, standingAfter, limitAfter}
+use Rattle.record.specs.declared.GroupEvent.{GroupEvent}
+use Rattle.ending.specs.Ends.{quiet, eventsOf, eventIn, standingOfEnd, limitAfter, limitOfEnd, windowOfEnd}
 use Rattle.ending.proofs.SixGroups.{six-at}
 
 -- the moves of some products on the day of the book
 abbrev pub movesToday : Book → List ℕ → List Move
-movesToday b ps = movesOf b (monthOf (b .day)) (b .day .left) ps
+movesToday b ps = movesOf b (tradeDate (b .day)) ps
 
 abbrev pub eventToday : Book → ℕ → Event
-eventToday b g = eventIn b (monthOf (b .day)) (b .day .left) g
+eventToday b g = eventIn b (tradeDate (b .day)) g
 
 -- what is left, field by field
 pub record Leaves (b z : Book) (es : List GroupEvent) : Type 0 where
   pub events : eventsOf es ≡ map (eventToday b) six
   pub standings : (g : ℕ) → g < 6
-      → standingIn z g ≡ standingAfter (getD es g quiet .event) (any isAtExpanded (movesToday b (productsOf g)))
+      → standingIn z g ≡ standingOfEnd b (tradeDate (b .day)) es g
   pub limits : (p : ℕ) → p < 8
-      → limitIn z p ≡ limitAfter (isRaised (getD es (groupOf p) quiet .event)) p (limitIn b p)
+      → limitIn z p ≡ limitOfEnd es (b .limits) p
   pub windows : (p : ℕ) → p < 8
-      → windowOf (z .windows) p ≡ windowAfter (b .day) p (windowOf (b .windows) p) (sheetOr (sheetIn (todayIn b p)))
+      → windowOf (z .windows) p ≡ windowOfEnd b p
   pub today : (p : ℕ) → p < 8 → sheetIn (todayIn z p) ≡ none
   pub last : z .last ≡ b .today
   pub day : z .day ≡ b .day
@@ -122,30 +121,30 @@ module _ (b z : Book) (g : ℕ) (f : Product → Product) (e : (p : ℕ) → p <
       let one = and-left _ _ t in
       ap₂ _∷_ (e p (ltb-true _ _ (and-left _ _ one)) (eqb-true _ _ (and-right _ _ one))) (members-view ps (and-right _ _ t))
 
-module _ (b z : Book) (es : List GroupEvent) (left : Leaves b z es) where
+module _ (b z : Book) (es : List GroupEvent) (after : Leaves b z es) where
   event-at : (g : ℕ) → g < 6 → getD es g quiet .event ≡ eventToday b g
   event-at g l =
       sym (List·getD-map (λ (e : GroupEvent). e .event) es g quiet)
-      ∙ ap (λ (l : List Event). getD l g Quiet) (left .events)
+      ∙ ap (λ (l : List Event). getD l g Quiet) (after .events)
       ∙ sym (six-at Quiet (eventToday b) g l)
 
   product-after : (p : ℕ) → p < 8 → (e : Event) → getD es (groupOf p) quiet .event ≡ e
       → viewProduct z p ≡ endProduct (b .day) e (viewProduct b p)
   unfolding viewProduct endProduct
   product-after p l e is =
-      rw (left .limits p l, is, initial-after (isRaised e) p (limitIn b p), expanded-after (isRaised e) p (limitIn b p), left .windows p l, left .today p l, left .last)
+      rw (after .limits p l, is, initial-after (isRaised e) p (limitIn b p), expanded-after (isRaised e) p (limitIn b p), after .windows p l, after .today p l, after .last)
 
   group-shown : (g : ℕ) → g < 6 → viewGroup z g (productsOf g) ≡ endGroup (viewCommon b) (viewGroup b g (productsOf g))
   unfolding viewGroup
   group-shown g l =
       let e = eventToday b g in
       let products = members-view b z g (endProduct (b .day) e) (λ p h of. product-after p h e (ap (λ (g : ℕ). getD es g quiet .event) of ∙ event-at g l)) (productsOf g) (members g l) in
-      sym (group-after b g ∙ sym (rw (left .standings g l, event-at g l, level-of e, products)))
+      sym (group-after b g ∙ sym (rw (after .standings g l, event-at g l, level-of e, products)))
 
   pub end-answer : ended (eventsOf es) ≡ answer (view b) end
   unfolding answer view
-  end-answer = ap ended (left .events ∙ sym (events-are b))
+  end-answer = ap ended (after .events ∙ sym (events-are b))
 
   pub end-view : view z ≡ next (view b) end
   unfolding viewCommon nextCommon nextGroup
-  end-view = next-view b z end (rw (left .day, left .trading)) group-shown
+  end-view = next-view b z end (rw (after .day, after .trading)) group-shown

@@ -14,32 +14,32 @@ use Rattle.record.specs.Window.{newCropMonth}
 use Rattle.book.proofs.TradeDates.{true-date}
 use Rattle.ending.specs.Ends.{collectingAs, monthIn}
 
-pub record Dated (d : Day) (today : ℕ) : Type 0 where
-  pub falls : today + 1 ≡ d .year * 12 + d .month
+pub record Dated (d : Day) (month : ℕ) : Type 0 where
+  pub falls : month + 1 ≡ d .year * 12 + d .month
   pub first : 2000 ≤ d .year
   pub last : d .year ≤ 2098
   pub lastMonth : d .month ≤ 12
 
-pub dated : (d : Day) (today : ℕ) → isTrueDay d ≡ true → today ≡ monthOf d → Dated d today
+pub dated : (d : Day) (month : ℕ) → isTrueDay d ≡ true → month ≡ monthOf d → Dated d month
 unfolding contractMonth
-dated d today t e =
+dated d month t e =
     let v = valid-date (d .year) (d .month) (d .day) (true-date d t) in
-    let month = v .someMonth in
+    let some-month = v .someMonth in
     record { falls = omega arith; first = v .first; last = v .last; lastMonth = v .lastMonth }
 
 -- from January of the date's year
-module _ (d : Day) (today : ℕ) (is : Dated d today) where
-  pub next-july : today + 1 - d .month + 18 ≡ contractMonth (d .year + 1) 7
+module _ (d : Day) (month : ℕ) (is : Dated d month) where
+  pub next-july : month + 1 - d .month + 18 ≡ contractMonth (d .year + 1) 7
   unfolding contractMonth
   next-july = let falls = is .falls in omega arith
 
-  pub this-july : today + 1 - d .month + 6 ≡ contractMonth (d .year) 7
+  pub this-july : month + 1 - d .month + 6 ≡ contractMonth (d .year) 7
   unfolding contractMonth
   this-july = let falls = is .falls in omega arith
 
-  pub this-year : (month : ℕ) → today + 1 - d .month + month - 1 ≡ contractMonth (d .year) month
+  pub this-year : (n : ℕ) → month + 1 - d .month + n - 1 ≡ contractMonth (d .year) n
   unfolding contractMonth
-  this-year month = let falls = is .falls in omega arith
+  this-year n = let falls = is .falls in omega arith
 
 pub new-crop-small : (p : ℕ) → newCropMonth p ≤ 12
 new-crop-small p = go (eqb p 1 || eqb p 7)

@@ -11,7 +11,8 @@ use Rattle.record.specs.declared.Day.{Day}
 use Rattle.record.specs.State.{sheetOr}
 use Rattle.record.specs.Window.{collectedMonth, windowBy, windowAfter}
 use Rattle.sheets.specs.declared.Sheet.{Sheet}
-use Rattle.sheets.specs.Sheets.{contractsOf, sheetIn}
+use Rattle.sheets.specs.Sheets.{entriesOf, sheetIn}
+use Rattle.sheets.proofs.Rest.{counted}
 use Rattle.windows.specs.declared.Windows.{Windows}
 use Rattle.windows.specs.Windows.{sizeOf, windowOf, Changed}
 use Rattle.windows.proofs.Shown.{shown, too-long}
@@ -54,10 +55,10 @@ module _ (new : ℕ → List ℕ) (old : Windows) where
           c .others q other ∙ f .done q less
 
 -- the collected contract's settlement goes to a window that is still the old one
-pub collected-as : (d : Day) (p : ℕ) (s : Sheet) (c : Collecting) (old w r : Windows)
+pub collected-as : (d : Day) (p : ℕ) (s : Sheet) (c : Collecting) (old w r : Windows) → s .len ≤ 16
     → c ≡ collectingAs (collectedMonth d p) → windowOf w p ≡ windowOf old p
-    → Changed w p (windowBy (windowOf w p) (contractsOf s) (monthIn c)) r
+    → Changed w p (windowBy (windowOf w p) (entriesOf s) (monthIn c)) r
     → Changed w p (windowAfter d p (windowOf old p) (sheetOr (sheetIn s))) r
 unfolding windowAfter
-collected-as d p s c old w r e f g =
-    record { changed = g .changed ∙ rw (e, month-in (collectedMonth d p), f, sheet-contracts s); others = g .others }
+collected-as d p s c old w r fits e f g =
+    record { changed = g .changed ∙ rw (e, month-in (collectedMonth d p), f, sheet-contracts s ∙ counted s fits); others = g .others }

@@ -1,16 +1,12 @@
--- What an end asks of a sound book with a day open.
+-- What the search asks of a sound book.
 use mathlib.Core.Path.{_≡_}
 use mathlib.Core.Bool.{true}
-use Rattle.record.specs.Opening.{isTrueDay}
 use Rattle.record.specs.Sound.{isSound}
 use Rattle.book.specs.declared.Book.{Book}
 use Rattle.book.specs.Book.{view}
-use Rattle.book.proofs.SoundFacts.{today-fits, last-fits, today-ascending, open-day, true-day}
+use Rattle.book.proofs.SoundFacts.{today-fits, last-fits, today-ascending}
 use Rattle.lead.specs.Lead.{Readable}
 
 module _ (b : Book) (sound : isSound (view b) ≡ true) where
   pub readable : Readable b
   readable = record { today = today-fits b sound; last = last-fits b sound; ascending = today-ascending b sound }
-
-  pub open-date : b .trading ≡ true → isTrueDay (b .day) ≡ true
-  open-date e = true-day b sound (b .day) (open-day b sound e)

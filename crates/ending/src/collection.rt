@@ -2,14 +2,15 @@
 ghost use mathlib.Core.Path.{_≡_};
 ghost use mathlib.Core.Bool.{true};
 ghost use Prim.Native.Nat.{ℕ, _<_, _≤_};
-ghost use Rattle.record.specs.State.{monthOf, sheetOr};
+ghost use Rattle.record.specs.State.{monthOf, tradeDate};
 ghost use Rattle.record.specs.Opening.{isTrueDay};
-ghost use Rattle.record.specs.Window.{upToMiddleOf, newCropMonth, collectedMonth, windowBy, windowAfter};
-ghost use Rattle.sheets.specs.Sheets.{contractsOf, sheetIn};
+ghost use Rattle.record.specs.Window.{upToMiddleOf, newCropMonth, collectedMonth, windowBy};
+ghost use Rattle.sheets.specs.Sheets.{entriesOf};
 ghost use Rattle.windows.specs.Windows.{sizeOf, windowOf, Changed};
 ghost use Rattle.book.specs.Book.{todayIn};
-ghost use Rattle.ending.specs.Ends.{collectingAs, monthIn};
+ghost use Rattle.ending.specs.Ends.{collectingAs, monthIn, windowOfEnd};
 use book::Book;
+use grain::TradeDate;
 use record::Day;
 use sheets::Listed;
 use sheets::Sheet;
@@ -47,12 +48,12 @@ fn new_crop_month(p: usize) -> u32
     12
 }
 
-// today is the contract month of the date.
-fn collected_month(d: Day, today: u32, p: usize) -> Collecting
-    requires { ⌜ (isTrueDay d ≡ true) × (today ≡ monthOf d) ⌝ }
+// `month` is the contract month of the date.
+fn collected_month(d: Day, month: u32, p: usize) -> Collecting
+    requires { ⌜ (isTrueDay d ≡ true) × (month ≡ monthOf d) ⌝ }
     ensures { λ r. ⌜ r ≡ collectingAs (collectedMonth d p) ⌝ }
 {
-    let january = today + 1 - d.month;
+    let january = month + 1 - d.month;
     if 11 <= d.month {
         return Collecting::Month(january + 18);
     }
@@ -70,30 +71,30 @@ fn collected_month(d: Day, today: u32, p: usize) -> Collecting
 
 // A contract that is not on the sheet empties the window.
 fn window_after(w: Windows, p: usize, c: Collecting, s: Sheet) -> Windows
-    requires { ⌜ (p < 8) × (sizeOf w p ≤ 45) × (s .len ≤ 16) ⌝ }
-    ensures { λ r. ⌜ Changed w p (windowBy (windowOf w p) (contractsOf s) (monthIn c)) r ⌝ }
+    requires { ⌜ (p < 8) × (sizeOf w p ≤ 45) ⌝ }
+    ensures { λ r. ⌜ Changed w p (windowBy (windowOf w p) (entriesOf s) (monthIn c)) r ⌝ }
 {
     let Collecting::Month(month) = c else {
         return w;
     };
-    let Listed::At(settlement) = sheets::find(s, month) else {
-        return windows::emptied(w, p);
+    let Listed::At(settlement) = s.find(month) else {
+        return w.emptied(p);
     };
-    windows::collected(w, p, settlement)
+    w.collected(p, settlement)
 }
 
-pub fn windows_after(b: Book, today: u32) -> Windows
-    requires { ⌜ (isTrueDay (b .day) ≡ true) × (today ≡ monthOf (b .day)) ⌝ }
+pub(crate) fn windows_after(b: Book, date: TradeDate) -> Windows
+    requires { ⌜ (isTrueDay (b .day) ≡ true) × (date ≡ tradeDate (b .day)) ⌝ }
     requires { ⌜ ((p : ℕ) → p < 8 → sizeOf (b .windows) p ≤ 45) ⌝ }
     requires { ⌜ ((p : ℕ) → p < 8 → todayIn b p .len ≤ 16) ⌝ }
-    ensures { λ r. ⌜ ((p : ℕ) → p < 8 → windowOf r p ≡ windowAfter (b .day) p (windowOf (b .windows) p) (sheetOr (sheetIn (todayIn b p)))) ⌝ }
+    ensures { λ r. ⌜ ((p : ℕ) → p < 8 → windowOf r p ≡ windowOfEnd b p) ⌝ }
 {
     let day = b.day;
     let sheets = b.today;
     let mut w = b.windows;
     for p in 0..8usize {
         let s = sheets[p];
-        w = window_after(w, p, collected_month(day, today, p), s);
+        w = window_after(w, p, collected_month(day, date.month, p), s);
     }
     w
 }

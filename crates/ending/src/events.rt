@@ -1,4 +1,4 @@
-// The event of each group, with its leading contract. `today` is the contract month of the date.
+// The event of each group, with its leading contract.
 ghost use mathlib.Core.Path.{_≡_};
 ghost use mathlib.Core.List.{map};
 ghost use Prim.Native.Nat.{_<_};
@@ -11,80 +11,81 @@ ghost use Rattle.book.specs.Book.{standingIn};
 ghost use Rattle.book.specs.Soundness.{six};
 ghost use Rattle.lead.specs.Lead.{meets, foundAs, movesOf, Readable};
 ghost use Rattle.ending.specs.Ends.{eventIn, eventsOf};
-use crate::GroupEvent;
 use book::Book;
+use grain::TradeDate;
 use lead::Condition;
 use lead::Found;
 use record::Event;
+use record::GroupEvent;
 
 // The products of a group stand together: from FIRSTS[g], up to ENDS[g] and not with it.
 const FIRSTS: [usize; 6] = [0, 1, 4, 5, 6, 7];
 
 const ENDS: [usize; 6] = [1, 4, 5, 6, 7, 8];
 
-pub fn leading_in(b: Book, today: u32, left: u32, condition: Condition, g: usize) -> Found
+pub(crate) fn leading_in(b: Book, date: TradeDate, condition: Condition, g: usize) -> Found
     requires { ⌜ (g < 6) × Readable b ⌝ }
-    ensures { λ r. ⌜ r ≡ foundAs (leading (keep (meets condition) (movesOf b today left (productsOf g)))) ⌝ }
+    ensures { λ r. ⌜ r ≡ foundAs (leading (keep (meets condition) (movesOf b date (productsOf g)))) ⌝ }
 {
-    lead::leading(b, today, left, condition, FIRSTS[g], ENDS[g])
+    lead::leading(b, date, condition, FIRSTS[g], ENDS[g])
 }
 
-fn initial_event(b: Book, today: u32, left: u32, g: usize) -> Event
+fn initial_event(b: Book, date: TradeDate, g: usize) -> Event
     requires { ⌜ (g < 6) × Readable b ⌝ }
-    ensures { λ r. ⌜ r ≡ eventOf initial (standingIn b g .marked) (movesOf b today left (productsOf g)) ⌝ }
+    ensures { λ r. ⌜ r ≡ eventOf initial (standingIn b g .marked) (movesOf b date (productsOf g)) ⌝ }
 {
-    let Found::At(at) = leading_in(b, today, left, Condition::Trigger, g) else {
+    let Found::At(at) = leading_in(b, date, Condition::Trigger, g) else {
         return Event::Quiet;
     };
     Event::Triggered(at)
 }
 
 // Of an expanded group that is not raised.
-fn held_or_reverted(b: Book, today: u32, left: u32, g: usize) -> Event
+fn held_or_reverted(b: Book, date: TradeDate, g: usize) -> Event
     requires { ⌜ (g < 6) × Readable b ⌝ }
-    ensures { λ r. ⌜ r ≡ ledBy (leading (keep isHolding (movesOf b today left (productsOf g)))) Held Reverted ⌝ }
+    ensures { λ r. ⌜ r ≡ ledBy (leading (keep isHolding (movesOf b date (productsOf g)))) Held Reverted ⌝ }
 {
-    let Found::At(at) = leading_in(b, today, left, Condition::Holding, g) else {
+    let Found::At(at) = leading_in(b, date, Condition::Holding, g) else {
         return Event::Reverted;
     };
     Event::Held(at)
 }
 
-fn expanded_event(b: Book, today: u32, left: u32, marked: bool, g: usize) -> Event
+fn expanded_event(b: Book, date: TradeDate, marked: bool, g: usize) -> Event
     requires { ⌜ (g < 6) × Readable b ⌝ }
-    ensures { λ r. ⌜ r ≡ eventOf expanded marked (movesOf b today left (productsOf g)) ⌝ }
+    ensures { λ r. ⌜ r ≡ eventOf expanded marked (movesOf b date (productsOf g)) ⌝ }
 {
     if !marked {
-        return held_or_reverted(b, today, left, g);
+        return held_or_reverted(b, date, g);
     }
-    let Found::At(at) = leading_in(b, today, left, Condition::AtExpanded, g) else {
-        return held_or_reverted(b, today, left, g);
+    let Found::At(at) = leading_in(b, date, Condition::AtExpanded, g) else {
+        return held_or_reverted(b, date, g);
     };
     Event::Raised(at)
 }
 
-fn event_of(b: Book, today: u32, left: u32, g: usize) -> Event
+fn event_of(b: Book, date: TradeDate, g: usize) -> Event
     requires { ⌜ (g < 6) × Readable b ⌝ }
-    ensures { λ r. ⌜ r ≡ eventIn b today left g ⌝ }
+    ensures { λ r. ⌜ r ≡ eventIn b date g ⌝ }
 {
     let standings = b.standings;
     let standing = standings[g];
     if standing.expanded {
-        return expanded_event(b, today, left, standing.marked, g);
+        return expanded_event(b, date, standing.marked, g);
     }
-    initial_event(b, today, left, g)
+    initial_event(b, date, g)
 }
 
-pub fn events_of(b: Book, today: u32, left: u32) -> [GroupEvent; 6]
+pub(crate) fn events_of(b: Book, date: TradeDate) -> [GroupEvent; 6]
     requires { ⌜ Readable b ⌝ }
-    ensures { λ r. ⌜ eventsOf r ≡ map (eventIn b today left) six ⌝ }
+    ensures { λ r. ⌜ eventsOf r ≡ map (eventIn b date) six ⌝ }
 {
     let mut events = [GroupEvent {
         event: Event::Quiet,
     }; 6];
     for g in 0..6usize {
         events[g] = GroupEvent {
-            event: event_of(b, today, left, g),
+            event: event_of(b, date, g),
         };
     }
     events

@@ -1,12 +1,19 @@
 // The end of a day: for each group its event with the leading contract, its level, mark and limits; then the windows.
 ghost use mathlib.Core.Path.{_≡_};
 ghost use mathlib.Core.Bool.{true};
-ghost use Rattle.record.specs.Record.{answer, next, end as call, ended as answered};
+ghost use Rattle.record.specs.State.{tradeDate};
+ghost use Rattle.record.specs.Opening.{isTrueDay};
+ghost use Rattle.record.specs.Record.{answer, next as nextState, end as call, ended as answered};
 ghost use Rattle.record.specs.Sound.{isSound};
 ghost use Rattle.book.specs.Book.{view};
-ghost use Rattle.ending.specs.Ends.{eventsOf, Ends};
+ghost use Rattle.ending.specs.Ends.{eventsOf, refusedBy, Ends};
 use book::Book;
+use book::Dated;
+use grain::TradeDate;
 use record::Event;
+use record::GroupEvent;
+use record::refusals::UNSOUND;
+use sheets::Sheet;
 
 mod collection;
 mod events;
@@ -20,17 +27,25 @@ use limits::limits_after;
 use refusals::refusal_of;
 use standings::standings_after;
 
-// An event carries its leading contract, where it has one.
-pub struct GroupEvent {
-    pub event: Event,
-}
-
 pub struct Ended {
     // 0, or the number of the refusal.
     pub refusal: u32,
-    // For each group, its event.
+    // For each group, its event; an event carries its leading contract, where it has one.
     pub events: [GroupEvent; 6],
     pub book: Book,
+}
+
+// A refused end says quiet for all six groups.
+fn refused(b: Book, refusal: u32) -> Ended
+    ensures { λ r. ⌜ r ≡ refusedBy b refusal ⌝ }
+{
+    Ended {
+        refusal,
+        events: [GroupEvent {
+            event: Event::Quiet,
+        }; 6],
+        book: b,
+    }
 }
 
 pub fn end(b: Book) -> Ended
@@ -38,42 +53,38 @@ pub fn end(b: Book) -> Ended
 {
     let refusal = refusal_of(b);
     if refusal != 0 {
-        return Ended {
-            refusal,
-            events: [GroupEvent {
-                event: Event::Quiet,
-            }; 6],
-            book: b,
-        };
+        return refused(b, refusal);
     }
-    accepted(b)
+    let day = b.day;
+    // A sound book has a date on every open day.
+    let Dated::On(date) = book::trade_date(day) else {
+        return refused(b, UNSOUND);
+    };
+    accepted(b, date)
 }
 
 // What an accepted end leaves. Events are by the levels, limits and marks before it; today's sheets become the last ended ones.
-fn accepted(b: Book) -> Ended
-    requires { ⌜ (isSound (view b) ≡ true) × (b .trading ≡ true) ⌝ }
-    ensures { λ r. ⌜ (r .refusal ≡ 0) × (answered (eventsOf (r .events)) ≡ answer (view b) call) × (view (r .book) ≡ next (view b) call) ⌝ }
+fn accepted(b: Book, date: TradeDate) -> Ended
+    requires { ⌜ (isSound (view b) ≡ true) × (isTrueDay (b .day) ≡ true) × (date ≡ tradeDate (b .day)) ⌝ }
+    ensures { λ r. ⌜ (r .refusal ≡ 0) × (answered (eventsOf (r .events)) ≡ answer (view b) call) × (view (r .book) ≡ nextState (view b) call) ⌝ }
 {
-    let day = b.day;
-    let today = book::contract_month(day);
-    let left = day.left;
-    let events = events_of(b, today, left);
-    let mut n = b;
-    let standings = standings_after(b, today, left, events);
-    n.standings = standings;
+    let events = events_of(b, date);
+    let mut next = b;
+    let standings = standings_after(b, date, events);
+    next.standings = standings;
     let limits = b.limits;
     let raised = limits_after(events, limits);
-    n.limits = raised;
-    n.windows = windows_after(b, today);
+    next.limits = raised;
+    next.windows = windows_after(b, date);
     let sheets = b.today;
-    n.last = sheets;
-    let none = sheets::no_sheet();
+    next.last = sheets;
+    let none = Sheet::none();
     let empty = [none; 8];
-    n.today = empty;
-    n.trading = false;
+    next.today = empty;
+    next.trading = false;
     Ended {
         refusal: 0,
         events,
-        book: n,
+        book: next,
     }
 }

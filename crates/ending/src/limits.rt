@@ -2,13 +2,12 @@
 ghost use mathlib.Core.Path.{_≡_};
 ghost use Prim.Native.Nat.{ℕ, _<_};
 ghost use lib.ListN.{getD};
-ghost use Rattle.record.specs.State.{groupOf};
 ghost use Rattle.record.specs.End.{isRaised};
 ghost use Rattle.book.specs.Book.{noLimit};
-ghost use Rattle.ending.specs.Ends.{quiet, limitAfter};
-use crate::GroupEvent;
+ghost use Rattle.ending.specs.Ends.{limitAfter, limitOfEnd};
 use book::Limit;
 use record::Event;
+use record::GroupEvent;
 
 fn is_raised(event: Event) -> bool
     ensures { λ r. ⌜ r ≡ isRaised event ⌝ }
@@ -35,8 +34,8 @@ fn limit_after(raised: bool, p: usize, limit: Limit) -> Limit
     }
 }
 
-pub fn limits_after(events: [GroupEvent; 6], limits: [Limit; 8]) -> [Limit; 8]
-    ensures { λ r. ⌜ ((p : ℕ) → p < 8 → getD r p noLimit ≡ limitAfter (isRaised (getD events (groupOf p) quiet .event)) p (getD limits p noLimit)) ⌝ }
+pub(crate) fn limits_after(events: [GroupEvent; 6], limits: [Limit; 8]) -> [Limit; 8]
+    ensures { λ r. ⌜ ((p : ℕ) → p < 8 → getD r p noLimit ≡ limitOfEnd events limits p) ⌝ }
 {
     let mut after = limits;
     for p in 0..8usize {

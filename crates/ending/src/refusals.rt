@@ -9,10 +9,10 @@ use record::refusals::UNSOUND;
 use record::refusals::WRONG_PHASE;
 
 // 0 where nothing refuses it.
-pub fn refusal_of(b: Book) -> u32
+pub(crate) fn refusal_of(b: Book) -> u32
     ensures { λ r. ⌜ r ≡ orElse (refusal (view b) end) 0 ⌝ }
 {
-    if !book::is_sound(b) {
+    if !b.is_sound() {
         return UNSOUND;
     }
     if !b.trading {

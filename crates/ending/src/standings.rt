@@ -7,14 +7,15 @@ ghost use Rattle.record.specs.End.{isAtExpanded};
 ghost use Rattle.record.specs.History.{productsOf};
 ghost use Rattle.book.specs.Book.{noStanding};
 ghost use Rattle.lead.specs.Lead.{movesOf, Readable};
-ghost use Rattle.ending.specs.Ends.{quiet, standingAfter};
-use crate::GroupEvent;
+ghost use Rattle.ending.specs.Ends.{standingAfter, standingOfEnd};
 use crate::events::leading_in;
 use book::Book;
 use book::Standing;
+use grain::TradeDate;
 use lead::Condition;
 use lead::Found;
 use record::Event;
+use record::GroupEvent;
 
 // Held with a move of exactly E, which `reached` says, is marked; every other event clears the mark.
 fn standing_after(event: Event, reached: bool) -> Standing
@@ -45,36 +46,36 @@ fn standing_after(event: Event, reached: bool) -> Standing
 }
 
 // One of the group moved by exactly E.
-fn is_at_expanded(b: Book, today: u32, left: u32, g: usize) -> bool
+fn is_at_expanded(b: Book, date: TradeDate, g: usize) -> bool
     requires { ⌜ (g < 6) × Readable b ⌝ }
-    ensures { λ r. ⌜ r ≡ any isAtExpanded (movesOf b today left (productsOf g)) ⌝ }
+    ensures { λ r. ⌜ r ≡ any isAtExpanded (movesOf b date (productsOf g)) ⌝ }
 {
-    let Found::At(_) = leading_in(b, today, left, Condition::AtExpanded, g) else {
+    let Found::At(_) = leading_in(b, date, Condition::AtExpanded, g) else {
         return false;
     };
     true
 }
 
 // A move of exactly E is looked for only in a held group: no other event can set the mark.
-fn standing_in(b: Book, today: u32, left: u32, event: Event, g: usize) -> Standing
+fn standing_in(b: Book, date: TradeDate, event: Event, g: usize) -> Standing
     requires { ⌜ (g < 6) × Readable b ⌝ }
-    ensures { λ r. ⌜ r ≡ standingAfter event (any isAtExpanded (movesOf b today left (productsOf g))) ⌝ }
+    ensures { λ r. ⌜ r ≡ standingAfter event (any isAtExpanded (movesOf b date (productsOf g))) ⌝ }
 {
     let Event::Held(_) = event else {
         return standing_after(event, false);
     };
-    standing_after(event, is_at_expanded(b, today, left, g))
+    standing_after(event, is_at_expanded(b, date, g))
 }
 
-pub fn standings_after(b: Book, today: u32, left: u32, events: [GroupEvent; 6]) -> [Standing; 6]
+pub(crate) fn standings_after(b: Book, date: TradeDate, events: [GroupEvent; 6]) -> [Standing; 6]
     requires { ⌜ Readable b ⌝ }
-    ensures { λ r. ⌜ ((g : ℕ) → g < 6 → getD r g noStanding ≡ standingAfter (getD events g quiet .event) (any isAtExpanded (movesOf b today left (productsOf g)))) ⌝ }
+    ensures { λ r. ⌜ ((g : ℕ) → g < 6 → getD r g noStanding ≡ standingOfEnd b date events g) ⌝ }
 {
     let mut standings = b.standings;
     for g in 0..6usize {
         let one = events[g];
         let event = one.event;
-        standings[g] = standing_in(b, today, left, event, g);
+        standings[g] = standing_in(b, date, event, g);
     }
     standings
 }

@@ -28,3 +28,8 @@ pub enum Event {
     Reverted,
     Raised(Lead),
 }
+
+// An event as an element of an array: of what an end answers, one for each group.
+pub struct GroupEvent {
+    pub event: Event,
+}

@@ -4,9 +4,9 @@ use crate::text::output::put;
 use crate::text::output::put_bit;
 use crate::text::output::put_byte;
 use crate::text::output::put_number;
-use ending::GroupEvent;
 use grain::Verdict;
 use record::Event;
+use record::GroupEvent;
 use record::Lead;
 
 pub fn put_refusal(out: &mut Buffer, at: usize, refusal: u32) -> usize {

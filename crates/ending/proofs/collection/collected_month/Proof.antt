@@ -11,7 +11,7 @@ use Rattle.ending.proofs.collection.collected_month.Tie as tie
 add-january : tie.Need-add-january
 add-january c =
     let a = c .args in
-    let is = dated (a .d) (a .today) (c .pre .0) (c .pre .1) in
+    let is = dated (a .d) (a .month) (c .pre .0) (c .pre .1) in
     let falls = is .falls in
     let last = is .last in
     let lastMonth = is .lastMonth in
@@ -20,7 +20,7 @@ add-january c =
 sub-january : tie.Need-sub-january
 sub-january c =
     let a = c .before .args in
-    let is = dated (a .d) (a .today) (c .before .pre .0) (c .before .pre .1) in
+    let is = dated (a .d) (a .month) (c .before .pre .0) (c .before .pre .1) in
     let falls = is .falls in
     let first = is .first in
     omega arith
@@ -28,7 +28,7 @@ sub-january c =
 add-t7 : tie.Need-add-t7
 add-t7 c =
     let k = c .before .before .before in
-    let is = dated (k .args .d) (k .args .today) (k .pre .0) (k .pre .1) in
+    let is = dated (k .args .d) (k .args .month) (k .pre .0) (k .pre .1) in
     let falls = is .falls in
     let last = is .last in
     omega arith
@@ -37,8 +37,8 @@ returns : tie.Need-returns
 unfolding collectedMonth
 returns c =
     let k = c .before .before .before in
-    let is = dated (k .args .d) (k .args .today) (k .pre .0) (k .pre .1) in
-    rw (le-leb 11 (k .args .d .month) (c .if1 .taken)) (ap Month (next-july (k .args .d) (k .args .today) is))
+    let is = dated (k .args .d) (k .args .month) (k .pre .0) (k .pre .1) in
+    rw (le-leb 11 (k .args .d .month) (c .if1 .taken)) (ap Month (next-july (k .args .d) (k .args .month) is))
 
 is-up-to-middle-of-requires : tie.Need-is-up-to-middle-of-requires
 is-up-to-middle-of-requires c κs = search needs
@@ -46,7 +46,7 @@ is-up-to-middle-of-requires c κs = search needs
 add-t9 : tie.Need-add-t9
 add-t9 c =
     let k = c .before .before .before .before .before in
-    let is = dated (k .args .d) (k .args .today) (k .pre .0) (k .pre .1) in
+    let is = dated (k .args .d) (k .args .month) (k .pre .0) (k .pre .1) in
     let falls = is .falls in
     let last = is .last in
     omega arith
@@ -56,9 +56,9 @@ unfolding collectedMonth
 returns-2 c =
     let h = c .before .before in
     let k = h .before .before .before in
-    let is = dated (k .args .d) (k .args .today) (k .pre .0) (k .pre .1) in
+    let is = dated (k .args .d) (k .args .month) (k .pre .0) (k .pre .1) in
     rw (lt-leb 11 (k .args .d .month) (h .if1 .left), sym (c .before .is-up-to-middle-of .ensures) ∙ c .if2 .taken)
-    (ap Month (this-july (k .args .d) (k .args .today) is))
+    (ap Month (this-july (k .args .d) (k .args .month) is))
 
 returns-3 : tie.Need-returns-3
 unfolding collectedMonth
@@ -86,7 +86,7 @@ new-crop-month-requires c κs = search needs
 add-t11 : tie.Need-add-t11
 add-t11 c =
     let k = c .before .before .before .before .before .before .before .before .before .before in
-    let is = dated (k .args .d) (k .args .today) (k .pre .0) (k .pre .1) in
+    let is = dated (k .args .d) (k .args .month) (k .pre .0) (k .pre .1) in
     let falls = is .falls in
     let last = is .last in
     let small = new-crop-small (k .args .p) in
@@ -96,7 +96,7 @@ add-t11 c =
 sub-t12 : tie.Need-sub-t12
 sub-t12 c =
     let k = c .before .before .before .before .before .before .before .before .before .before in
-    let is = dated (k .args .d) (k .args .today) (k .pre .0) (k .pre .1) in
+    let is = dated (k .args .d) (k .args .month) (k .pre .0) (k .pre .1) in
     let falls = is .falls in
     let first = is .first in
     omega arith
@@ -109,9 +109,9 @@ returns-5 c =
     let i = j .before .before in
     let h = i .before .before in
     let k = h .before .before .before in
-    let is = dated (k .args .d) (k .args .today) (k .pre .0) (k .pre .1) in
+    let is = dated (k .args .d) (k .args .month) (k .pre .0) (k .pre .1) in
     rw (lt-leb 11 (k .args .d .month) (h .if1 .left), sym (i .before .is-up-to-middle-of .ensures) ∙ i .if2 .left, le-leb 5 (k .args .d .month) (j .if3 .left), sym (m .before .is-up-to-middle-of2 .ensures) ∙ not-false _ (m .if4 .left), ← (c .new-crop-month .ensures))
-    (ap Month (this-year (k .args .d) (k .args .today) is (c .new-crop-month .result)))
+    (ap Month (this-year (k .args .d) (k .args .month) is (c .new-crop-month .result)))
 
 pub collected-month-spec : {M : Type 1} → statement M
 collected-month-spec =

@@ -1,7 +1,9 @@
 use borrow.Author.Needs.{needs}
+use native.Mathlib.Omega.{arith}
 use mathlib.Core.Path.{refl, sym, _∙_}
 use Rattle.record.specs.State.{settlementOn}
-use Rattle.sheets.specs.Sheets.{contractsOf}
+use Rattle.sheets.specs.Sheets.{entriesOf}
+use Rattle.windows.proofs.Collects.{collected-fits}
 use Rattle.sheets.proofs.Lookups.{is-none, is-some}
 use Rattle.ending.proofs.collection.window_after.Statement.{statement}
 use Rattle.ending.proofs.collection.window_after.Tie as tie
@@ -32,7 +34,7 @@ returns-2 : tie.Need-returns-2
 returns-2 c =
     let f = c .before .before .before in
     let m = f .before .before in
-    let e = is-none (settlementOn (contractsOf (m .before .before .args .s)) _) (sym (f .find .ensures) ∙ c .before .enum-told2 .given .1) in
+    let e = is-none (settlementOn (entriesOf (m .before .before .args .s)) _) (sym (f .find .ensures) ∙ c .before .enum-told2 .given .1) in
     rw (m .c .given .1, e) (c .emptied .ensures)
 
 collected-requires : tie.Need-collected-requires
@@ -42,8 +44,9 @@ returns-3 : tie.Need-returns-3
 returns-3 c =
     let f = c .before .before .before .before in
     let m = f .before .before in
-    let e = is-some (settlementOn (contractsOf (m .before .before .args .s)) _) _ (sym (f .find .ensures) ∙ c .before .before .settlement .given .1) in
-    rw (m .c .given .1, e) (c .collected .ensures)
+    let a = m .before .before .args in
+    let e = is-some (settlementOn (entriesOf (m .before .before .args .s)) _) _ (sym (f .find .ensures) ∙ c .before .before .settlement .given .1) in
+    rw (m .c .given .1, e, ← (collected-fits (a .w) (a .p) (c .before .before .settlement .given .0 .0) (omega arith) (omega arith))) (c .collected .ensures)
 
 pub window-after-spec : {M : Type 1} → statement M
 window-after-spec =

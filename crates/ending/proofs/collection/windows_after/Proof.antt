@@ -1,7 +1,9 @@
 use borrow.Author.Needs.{needs}
 use native.Mathlib.Omega.{arith}
 use Prim.Native.Nat.{_-_, _≤_}
+use mathlib.Core.Path.{ap}
 use lib.ListN.{getD}
+use Rattle.grain.specs.declared.spot.TradeDate.{TradeDate}
 use Rattle.record.specs.State.{sheetOr}
 use Rattle.record.specs.Window.{windowAfter}
 use Rattle.sheets.specs.Sheets.{sheetIn}
@@ -12,11 +14,11 @@ use Rattle.ending.proofs.collection.windows_after.Statement.{statement}
 use Rattle.ending.proofs.collection.windows_after.Tie as tie
 
 abbrev Inv-loop : tie.InvT-loop
-Inv-loop today day sheets w₀ p₀ w p =
+Inv-loop date day sheets w₀ p₀ w p =
     (p ≤ 8) × Replaced (λ q. windowAfter day q (windowOf w₀ q) (sheetOr (sheetIn (getD sheets q noSheet)))) w₀ p w
 
 abbrev μ-loop : tie.MeasureT-loop
-μ-loop today day sheets w₀ p₀ w p = 8 - p
+μ-loop date day sheets w₀ p₀ w p = 8 - p
 
 loop-holds : tie.Need-loop-holds Inv-loop μ-loop
 loop-holds c = (search needs, replaced-start _ _)
@@ -28,14 +30,16 @@ array-copy-out-s : tie.Need-array-copy-out-s Inv-loop μ-loop
 array-copy-out-s c = search needs
 
 collected-month-requires : tie.Need-collected-month-requires Inv-loop μ-loop
-collected-month-requires c κs = search needs
+collected-month-requires c κs =
+    let a = c .before .before .before .before .before .before in
+    (a .pre .0 .0, ap (λ (d : TradeDate). d .month) (a .pre .0 .1))
 
 window-after-requires : tie.Need-window-after-requires Inv-loop μ-loop
 window-after-requires c κs =
     let k = c .before .before .before in
     let a = k .before .before .before .before in
     let p = k .loop .p in
-    (omega arith, same-fits (a .args .b .windows) (k .loop .w) p (k .loop .inv .1 .coming p (omega arith)) (a .pre .1 .0 p (omega arith)), a .pre .1 .1 p (omega arith))
+    (omega arith, same-fits (a .args .b .windows) (k .loop .w) p (k .loop .inv .1 .coming p (omega arith)) (a .pre .1 .0 p (omega arith)))
 
 add-p : tie.Need-add-p Inv-loop μ-loop
 add-p c = search needs
@@ -51,7 +55,7 @@ loop-again c =
     let b = a .args .b in
     let p = k .loop .p in
     let coming = k .loop .inv .1 .coming p (omega arith) in
-    (omega arith, replaced-next _ (b .windows) p (k .loop .w) _ (k .loop .inv .1) (collected-as (b .day) p (todayIn b p) (m .collected-month .result) (b .windows) (k .loop .w) _ (m .collected-month .ensures) coming (c .window-after .ensures)))
+    (omega arith, replaced-next _ (b .windows) p (k .loop .w) _ (k .loop .inv .1) (collected-as (b .day) p (todayIn b p) (m .collected-month .result) (b .windows) (k .loop .w) _ (a .pre .1 .1 p (omega arith)) (m .collected-month .ensures) coming (c .window-after .ensures)))
 
 returns : tie.Need-returns Inv-loop μ-loop
 returns c =

@@ -4,18 +4,18 @@ use Prim.Native.Nat.{ℕ, _-_, _≤_}
 use mathlib.Core.Path.{refl, ap}
 use lib.ListN.{getD}
 use Rattle.book.proofs.Filled.{Filled, filled-start, filled-next, filled-end}
-use Rattle.ending.specs.declared.GroupEvent.{GroupEvent}
+use Rattle.record.specs.declared.GroupEvent.{GroupEvent}
 use Rattle.ending.specs.Ends.{quiet, eventIn, eventsOf}
 use Rattle.ending.proofs.SixGroups.{six-are}
 use Rattle.ending.proofs.events.events_of.Statement.{statement}
 use Rattle.ending.proofs.events.events_of.Tie as tie
 
 abbrev Inv-loop : tie.InvT-loop
-Inv-loop b today left events₀ g₀ events g =
-    (g ≤ 6) × Filled 6 quiet (λ g. record { event = eventIn b today left g }) (λ q. getD events₀ q quiet) g events
+Inv-loop b date events₀ g₀ events g =
+    (g ≤ 6) × Filled 6 quiet (λ g. record { event = eventIn b date g }) (λ q. getD events₀ q quiet) g events
 
 abbrev μ-loop : tie.MeasureT-loop
-μ-loop b today left events₀ g₀ events g = 6 - g
+μ-loop b date events₀ g₀ events g = 6 - g
 
 loop-holds : tie.Need-loop-holds Inv-loop μ-loop
 loop-holds c = (search needs, filled-start 6 quiet _ _ refl)
@@ -45,7 +45,7 @@ returns : tie.Need-returns Inv-loop μ-loop
 returns c =
     let k = c .before in
     let a = k .before .args in
-    let new : ℕ → GroupEvent = λ (g : ℕ). record { event = eventIn (a .b) (a .today) (a .left) g } in
+    let new : ℕ → GroupEvent = λ (g : ℕ). record { event = eventIn (a .b) (a .date) g } in
     ap eventsOf (six-are quiet new (k .loop .events) (k .loop .inv .1 .long) (filled-end 6 quiet _ _ (k .loop .g) _ (k .loop .inv .1) (omega arith)))
 
 pub events-of-spec : {M : Type 1} → statement M

@@ -20,13 +20,13 @@ returns : tie.Need-returns
 returns c =
     let k = c .before .before in
     let a = k .before .args in
-    rw (nobody (leading (keep isHolding (movesOf (a .b) (a .today) (a .left) (productsOf (a .g))))) (k .leading-in .result) (k .leading-in .ensures) (c .enum-told .given .1))
+    rw (nobody (leading (keep isHolding (movesOf (a .b) (a .date) (productsOf (a .g))))) (k .leading-in .result) (k .leading-in .ensures) (c .enum-told .given .1))
 
 returns-2 : tie.Need-returns-2
 returns-2 c =
     let k = c .before .before .before in
     let a = k .before .args in
-    rw (found-at (leading (keep isHolding (movesOf (a .b) (a .today) (a .left) (productsOf (a .g))))) (k .leading-in .result) (k .leading-in .ensures) _ (c .before .at .given .1))
+    rw (found-at (leading (keep isHolding (movesOf (a .b) (a .date) (productsOf (a .g))))) (k .leading-in .result) (k .leading-in .ensures) _ (c .before .at .given .1))
 
 pub held-or-reverted-spec : {M : Type 1} → statement M
 held-or-reverted-spec =

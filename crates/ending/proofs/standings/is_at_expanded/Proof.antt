@@ -19,13 +19,13 @@ returns : tie.Need-returns
 returns c =
     let k = c .before .before in
     let a = k .before .args in
-    nobody-moved isAtExpanded (movesOf (a .b) (a .today) (a .left) (productsOf (a .g))) (k .leading-in .result) (k .leading-in .ensures) (c .enum-told2 .given .1)
+    nobody-moved isAtExpanded (movesOf (a .b) (a .date) (productsOf (a .g))) (k .leading-in .result) (k .leading-in .ensures) (c .enum-told2 .given .1)
 
 returns-2 : tie.Need-returns-2
 returns-2 c =
     let k = c .before .before in
     let a = k .before .args in
-    one-moved isAtExpanded (movesOf (a .b) (a .today) (a .left) (productsOf (a .g))) (k .leading-in .result) (k .leading-in .ensures) _ (c .enum-told .given .1)
+    one-moved isAtExpanded (movesOf (a .b) (a .date) (productsOf (a .g))) (k .leading-in .result) (k .leading-in .ensures) _ (c .enum-told .given .1)
 
 pub is-at-expanded-spec : {M : Type 1} → statement M
 is-at-expanded-spec =

@@ -2,23 +2,19 @@ use borrow.Author.Needs.{needs}
 use native.Mathlib.Omega.{arith}
 use Prim.Native.Nat.{_-_, _≤_}
 use lib.ListN.{getD}
-use Rattle.grain.specs.Lists.{any}
-use Rattle.record.specs.End.{isAtExpanded}
-use Rattle.record.specs.History.{productsOf}
 use Rattle.sheets.proofs.Rest.{mapped}
 use Rattle.book.specs.Book.{noStanding}
 use Rattle.book.proofs.Filled.{Filled, filled-start, filled-next, filled-end}
-use Rattle.lead.specs.Lead.{movesOf}
-use Rattle.ending.specs.Ends.{quiet, standingAfter}
+use Rattle.ending.specs.Ends.{standingOfEnd}
 use Rattle.ending.proofs.standings.standings_after.Statement.{statement}
 use Rattle.ending.proofs.standings.standings_after.Tie as tie
 
 abbrev Inv-loop : tie.InvT-loop
-Inv-loop b today left events standings₀ g₀ standings g =
-    (g ≤ 6) × Filled 6 noStanding (λ g. standingAfter (getD events g quiet .event) (any isAtExpanded (movesOf b today left (productsOf g)))) (λ q. getD standings₀ q noStanding) g standings
+Inv-loop b date events standings₀ g₀ standings g =
+    (g ≤ 6) × Filled 6 noStanding (standingOfEnd b date events) (λ q. getD standings₀ q noStanding) g standings
 
 abbrev μ-loop : tie.MeasureT-loop
-μ-loop b today left events standings₀ g₀ standings g = 6 - g
+μ-loop b date events standings₀ g₀ standings g = 6 - g
 
 loop-holds : tie.Need-loop-holds Inv-loop μ-loop
 loop-holds c =
