@@ -1,50 +1,34 @@
 // The bare check through a tally.
 ghost use denote.Ref.{now};
 ghost use mathlib.Core.Path.{_≡_};
+ghost use Rattle.grain.specs.Bare.{bareNumber};
 ghost use Rattle.record.specs.Choices.{orElse};
 ghost use Rattle.tally.specs.Tally.{tallyRefusal};
-ghost use Rattle.gateway.specs.Bare.{bareCheck};
 ghost use Rattle.gateway.specs.Tallied.{kindOfNumber, TalliesBare};
-use crate::botskhela_bare_check;
+use grain::BareAnswer;
 use tally::Kind;
 use tally::Tally;
 
-// Every number that is no verdict's is a refusal's.
-fn kind_of(number: u32) -> Kind
-    ensures { λ r. ⌜ r ≡ kindOfNumber number ⌝ }
+fn kind_of(answer: BareAnswer) -> Kind
+    ensures { λ r. ⌜ r ≡ kindOfNumber (bareNumber answer) ⌝ }
 {
-    if number == 100 {
-        return Kind::Free;
+    match answer {
+        BareAnswer::Is(verdict) => tally::kind_of_verdict(verdict),
+        BareAnswer::NoSuchProduct => Kind::Refused,
+        BareAnswer::BadPrice => Kind::Refused,
+        BareAnswer::UnfitAmount => Kind::Refused,
     }
-    if number == 101 {
-        return Kind::Within;
-    }
-    if number == 102 {
-        return Kind::Below;
-    }
-    if number == 103 {
-        return Kind::Above;
-    }
-    Kind::Refused
 }
 
 // The tally's own refusals come first.
-fn answer(
-    t: Tally,
-    product: u32,
-    size: u32,
-    settlement: u32,
-    amount: u32,
-    spot: u32,
-    price: u32,
-) -> u32
-    ensures { λ r. ⌜ r ≡ orElse (tallyRefusal t) (bareCheck product size settlement amount spot price) ⌝ }
+fn number_by(t: Tally, answer: BareAnswer) -> u32
+    ensures { λ r. ⌜ r ≡ orElse (tallyRefusal t) (bareNumber answer) ⌝ }
 {
     let n = tally::refusal(t);
     if n != 0 {
         return n;
     }
-    botskhela_bare_check(product, size, settlement, amount, spot, price)
+    grain::bare_number(answer)
 }
 
 // include/botskhela.h says what the arguments and answers are.
@@ -60,9 +44,10 @@ pub extern "C" fn botskhela_tallied_check(
 ) -> u32
     ensures { λ r. ⌜ TalliesBare (now (t .entry)) product size settlement amount spot price r (now (t .exit)) ⌝ }
 {
-    let r = answer(*t, product, size, settlement, amount, spot, price);
-    let kind = kind_of(r);
+    let answer = grain::bare_check(product, size, settlement, amount, spot, price);
+    let number = number_by(*t, answer);
+    let kind = kind_of(answer);
     // A tally that refuses is left as it is.
     tally::count(t, kind);
-    r
+    number
 }

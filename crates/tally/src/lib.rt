@@ -36,7 +36,7 @@ pub enum Kind {
     Refused,
 }
 
-fn kind_of_verdict(verdict: Verdict) -> Kind
+pub fn kind_of_verdict(verdict: Verdict) -> Kind
     ensures { λ r. ⌜ r ≡ kindOfVerdict verdict ⌝ }
 {
     match verdict {
