@@ -2,8 +2,8 @@
 ghost use denote.Ref.{now};
 ghost use mathlib.Core.Path.{_≡_};
 ghost use Rattle.grain.specs.Bare.{bareNumber};
-ghost use Rattle.record.specs.Choices.{orElse};
-ghost use Rattle.tally.specs.Tally.{tallyRefusal};
+ghost use mathlib.Core.Bool.{cond};
+ghost use Rattle.tally.specs.Tally.{tallyRefusal, takes};
 ghost use Rattle.gateway.specs.Tallied.{kindOfNumber, TalliesBare};
 use grain::BareAnswer;
 use tally::Kind;
@@ -22,7 +22,7 @@ fn kind_of(answer: BareAnswer) -> Kind
 
 // The tally's own refusals come first.
 fn number_by(t: Tally, answer: BareAnswer) -> u32
-    ensures { λ r. ⌜ r ≡ orElse (tallyRefusal t) (bareNumber answer) ⌝ }
+    ensures { λ r. ⌜ r ≡ cond (takes t) (bareNumber answer) (tallyRefusal t) ⌝ }
 {
     let n = tally::refusal(t);
     if n != 0 {

@@ -1,0 +1,4 @@
+pub mod Counted
+pub mod BookAnswers
+pub mod Proved
+pub mod Ties
