@@ -1,46 +1,27 @@
 -- No bare check answers 1 or 15: these are the tally's own.
 use Prim.Native.Nat.{ℕ}
 use mathlib.Core.Path.{_≡_, refl}
-use mathlib.Core.Bool.{Bool, true, false, not, cond, _&&_}
+use mathlib.Core.Bool.{false}
 use lib.Dec.{eqb}
-use Rattle.grain.specs.Refusals.{unsound, noSuchProduct, badPrice, unfitAmount}
-use Rattle.grain.specs.Products.{isOffered}
-use Rattle.grain.specs.Prices.{isPrice, isSettlement}
-use Rattle.grain.specs.Amounts.{isFitAmount}
-use Rattle.grain.specs.Check.{verdict}
-use Rattle.grain.specs.Bare.{verdictNumber, bareCheck}
-use Rattle.grain.specs.declared.check.Verdict.{Verdict}
+use Rattle.grain.specs.Refusals.{unsound}
+use Rattle.grain.specs.Bare.{bareNumber, bareCheck}
 use Rattle.grain.specs.declared.check.Verdict.the-variants.{Free, Within, Below, Above}
+use Rattle.grain.specs.declared.bare.BareAnswer.{BareAnswer}
+use Rattle.grain.specs.declared.bare.BareAnswer.the-variants.{Is, NoSuchProduct, BadPrice, UnfitAmount}
+use Rattle.grain.proofs.BareAnswers.{of-each-answer}
 use Rattle.tally.specs.Tally.{tallyFull}
 
-module _ (n : ℕ) (five : eqb noSuchProduct n ≡ false) (eight : eqb badPrice n ≡ false) (thirteen : eqb unfitAmount n ≡ false)
-    (verdicts : (v : Verdict) → eqb (verdictNumber v) n ≡ false) where
-  no-answer : (p size settlement amount spot price : ℕ) → eqb (bareCheck p size settlement amount spot price) n ≡ false
-  unfolding bareCheck
-  no-answer p size settlement amount spot price =
-      go (not (isOffered p size)) (not (isSettlement p settlement && isPrice p size price)) (not (isFitAmount p amount))
-      (verdict (not (eqb spot 0)) settlement amount price)
-    where
-      go : (x y z : Bool) (v : Verdict) → eqb (cond x noSuchProduct (cond y badPrice (cond z unfitAmount (verdictNumber v)))) n ≡ false
-      go true y z v = five
-      go false true z v = eight
-      go false false true v = thirteen
-      go false false false v = verdicts v
+abbrev NotTallys : ℕ → Type 0
+NotTallys n = (eqb n unsound ≡ false) × (eqb n tallyFull ≡ false)
 
-pub not-unsound : (p size settlement amount spot price : ℕ) → eqb (bareCheck p size settlement amount spot price) unsound ≡ false
-not-unsound = no-answer unsound refl refl refl go
-  where
-    go : (v : Verdict) → eqb (verdictNumber v) unsound ≡ false
-    go Free = refl
-    go Within = refl
-    go Below = refl
-    go Above = refl
+not-tallys : (a : BareAnswer) → NotTallys (bareNumber a)
+not-tallys (Is Free) = (refl, refl)
+not-tallys (Is Within) = (refl, refl)
+not-tallys (Is Below) = (refl, refl)
+not-tallys (Is Above) = (refl, refl)
+not-tallys NoSuchProduct = (refl, refl)
+not-tallys BadPrice = (refl, refl)
+not-tallys UnfitAmount = (refl, refl)
 
-pub not-full : (p size settlement amount spot price : ℕ) → eqb (bareCheck p size settlement amount spot price) tallyFull ≡ false
-not-full = no-answer tallyFull refl refl refl go
-  where
-    go : (v : Verdict) → eqb (verdictNumber v) tallyFull ≡ false
-    go Free = refl
-    go Within = refl
-    go Below = refl
-    go Above = refl
+pub bare-not-tallys : (product size settlement amount spot price : ℕ) → NotTallys (bareCheck product size settlement amount spot price)
+bare-not-tallys = of-each-answer NotTallys not-tallys

@@ -4,7 +4,7 @@ use Rattle.tally.specs.Through.{talliedAnswer, tallyAfter}
 use Rattle.tally.proofs.Totals.{Lawful}
 use Rattle.tally.proofs.Proved.{through-one-tally}
 use Rattle.gateway.specs.Through.{bareChecks, BareThroughOneTally}
-use Rattle.gateway.proofs.BareAnswers.{not-full}
+use Rattle.gateway.proofs.BareAnswers.{bare-not-tallys}
 
 lawful : Lawful bareChecks
 unfolding talliedAnswer tallyAfter
@@ -12,7 +12,7 @@ lawful =
     record {
       answers = λ t o r u p. p .answer;
       tally = λ t o r u p. p .tally;
-      notFull = λ o. not-full (o .product) (o .size) (o .settlement) (o .amount) (o .spot) (o .price);
+      notFull = λ o. bare-not-tallys (o .product) (o .size) (o .settlement) (o .amount) (o .spot) (o .price) .1;
       saysFull = refl;
     }
 
