@@ -1,4 +1,5 @@
 pub mod Takes
+pub mod Counted
 pub mod Totals
 pub mod Proved
 pub mod Cases

@@ -1,4 +1,3 @@
-pub mod Counted
 pub mod BookAnswers
 pub mod Proved
 pub mod Ties

@@ -49,7 +49,7 @@ use Rattle.tally.specs.declared.Tally.{Tally}
 use Rattle.tally.specs.declared.Kind.{Kind}
 use Rattle.tally.specs.Tally.{tallyRefusal, takes, counted}
 use Rattle.tallying.specs.Tallies.{kindOf, bookAnswer, Tallies}
-use Rattle.tallying.proofs.Counted.{answered-counted}
+use Rattle.tally.proofs.Counted.{answered-counted}
 use Rattle.book.proofs.Book as B
 use Rattle.book.proofs.Book.Laws as B′
 use Rattle.checking.proofs.Checked as R
@@ -95,7 +95,7 @@ Tallied bk t n r u = Tallies bk t (n .0) (n .1 .0) (n .1 .1 .0) (n .1 .1 .1 .0) 
 
 tallied : (bk : Book) (t : Tally) (n : Nums) (r : Checked) (k : Kind) (u : Tally) → Answered bk t n r → k ≡ kindOf (checkedAs r) → u ≡ counted t k → Tallied bk t n r u
 tallied bk t n r k u e d c =
-    record { answer = e; tally = c ∙ ap (counted t) d ∙ answered-counted t (bookAnswer bk (n .0) (n .1 .0) (n .1 .1 .0) (n .1 .1 .1 .0)) (checkedAs r) e }
+    record { answer = e; tally = c ∙ ap (counted t) d ∙ answered-counted kindOf t (bookAnswer bk (n .0) (n .1 .0) (n .1 .1 .0) (n .1 .1 .1 .0)) (refused (tallyRefusal t)) (checkedAs r) e }
 
 abbrev stayed : Stays (f.ended .signature .params) (f.ended .kept)
 stayed = (stay-none (λ _. B.the-row) yes, (gave-ref (0 ∷ []) tt (plain (λ _. T.the-row)), (stay-none (λ _. u32) yes, (stay-none (λ _. u32) yes, (stay-none (λ _. u32) yes, (stay-none (λ _. u32) yes, tt))))))

@@ -1,61 +1,76 @@
+-- `not-free`, `not-within` and `not-below` are what is known past each test.
 use borrow.Author.Needs.{needs}
-use mathlib.Core.Path.{_≡_, refl, _∙_}
+use borrow.Author.Tests.{eq-eqb, ne-eqb}
+use mathlib.Core.Path.{_≡_, sym, _∙_}
+use mathlib.Core.Bool.{false}
+use lib.Dec.{eqb}
 use Rattle.grain.specs.Bare.{verdictNumber}
-use Rattle.grain.specs.declared.check.Verdict.{Verdict}
-use Rattle.grain.specs.declared.check.Verdict.the-variants.{Free, Within, Below, Above}
-use Rattle.tally.specs.Tally.{kindOfVerdict}
+use Rattle.grain.specs.declared.check.Verdict.the-variants.{Free, Within, Below}
 use Rattle.gateway.specs.Tallied.{kindOfNumber}
 use Rattle.gateway.proofs.tallied.kind_of.Statement.{statement}
 use Rattle.gateway.proofs.tallied.kind_of.Tie as tie
 
-verdict-kind : (v : Verdict) → kindOfVerdict v ≡ kindOfNumber (verdictNumber v)
-unfolding kindOfNumber
-verdict-kind Free = refl
-verdict-kind Within = refl
-verdict-kind Below = refl
-verdict-kind Above = refl
+not-free : (c : tie.Else1) → eqb (c .before .before .args .number) (verdictNumber Free) ≡ false
+not-free c = ne-eqb _ _ (λ e. c .if1 .left (e ∙ sym (c .before .verdict-number .ensures)))
 
-enum-known-answer : tie.Need-enum-known-answer
-enum-known-answer c = search needs
+not-within : (c : tie.Else2) → eqb (c .before .before .before .before .args .number) (verdictNumber Within) ≡ false
+not-within c = ne-eqb _ _ (λ e. c .if2 .left (e ∙ sym (c .before .verdict-number2 .ensures)))
 
-kind-of-verdict-requires : tie.Need-kind-of-verdict-requires
-kind-of-verdict-requires c κs = search needs
+not-below : (c : tie.Else3) → eqb (c .before .before .before .before .before .before .args .number) (verdictNumber Below) ≡ false
+not-below c = ne-eqb _ _ (λ e. c .if3 .left (e ∙ sym (c .before .verdict-number3 .ensures)))
 
-enum-told : tie.Need-enum-told
-enum-told c = search needs
-
-enum-told-2 : tie.Need-enum-told-2
-enum-told-2 c = search needs
-
-enum-told-3 : tie.Need-enum-told-3
-enum-told-3 c = search needs
+verdict-number-requires : tie.Need-verdict-number-requires
+verdict-number-requires c κs = search needs
 
 returns : tie.Need-returns
-returns c =
-    let v = c .before .before .answer .given in rw (v .1) (c .kind-of-verdict .ensures ∙ verdict-kind (v .0 .0))
+unfolding kindOfNumber
+returns c = simp (eq-eqb _ _ (c .if1 .taken ∙ c .before .verdict-number .ensures))
+
+verdict-number-requires-2 : tie.Need-verdict-number-requires-2
+verdict-number-requires-2 c κs = search needs
 
 returns-2 : tie.Need-returns-2
 unfolding kindOfNumber
-returns-2 c = rw (c .enum-told .given .1)
+returns-2 c =
+    let k = c .before .before in simp (not-free k, eq-eqb _ _ (c .if2 .taken ∙ c .before .verdict-number2 .ensures))
+
+verdict-number-requires-3 : tie.Need-verdict-number-requires-3
+verdict-number-requires-3 c κs = search needs
 
 returns-3 : tie.Need-returns-3
 unfolding kindOfNumber
-returns-3 c = rw (c .enum-told2 .given .1)
+returns-3 c =
+    let k = c .before .before in
+    simp (not-free (k .before .before), not-within k, eq-eqb _ _ (c .if3 .taken ∙ c .before .verdict-number3 .ensures))
+
+verdict-number-requires-4 : tie.Need-verdict-number-requires-4
+verdict-number-requires-4 c κs = search needs
 
 returns-4 : tie.Need-returns-4
 unfolding kindOfNumber
-returns-4 c = rw (c .enum-told3 .given .1)
+returns-4 c =
+    let k = c .before .before in
+    let j = k .before .before in
+    simp (not-free (j .before .before), not-within j, not-below k, eq-eqb _ _ (c .if4 .taken ∙ c .before .verdict-number4 .ensures))
+
+returns-5 : tie.Need-returns-5
+unfolding kindOfNumber
+returns-5 c =
+    let k = c .before .before in
+    let j = k .before .before in
+    let above = ne-eqb _ _ (λ e. c .if4 .left (e ∙ sym (c .before .verdict-number4 .ensures))) in
+    simp (not-free (j .before .before), not-within j, not-below k, above)
 
 pub kind-of-spec : {M : Type 1} → statement M
 kind-of-spec =
     tie.close
     (tie.spec
-    enum-known-answer
-    kind-of-verdict-requires
-    enum-told
-    enum-told-2
-    enum-told-3
+    verdict-number-requires
     returns
+    verdict-number-requires-2
     returns-2
+    verdict-number-requires-3
     returns-3
-    returns-4)
+    verdict-number-requires-4
+    returns-4
+    returns-5)
