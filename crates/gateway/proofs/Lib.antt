@@ -1,1 +1,3 @@
-pub mod Counted
+pub mod BareAnswers
+pub mod Proved
+pub mod Ties

@@ -1,11 +1,13 @@
 // The bare check through a tally.
 ghost use denote.Ref.{now};
 ghost use mathlib.Core.Path.{_≡_};
-ghost use Rattle.record.specs.Choices.{orElse};
-ghost use Rattle.tally.specs.Tally.{tallyRefusal};
-ghost use Rattle.gateway.specs.Bare.{bareCheck};
+ghost use mathlib.Core.Bool.{cond};
+ghost use Rattle.grain.specs.Bare.{bareCheck};
+ghost use Rattle.tally.specs.Tally.{tallyRefusal, takes};
 ghost use Rattle.gateway.specs.Tallied.{kindOfNumber, TalliesBare};
 use crate::botskhela_bare_check;
+use grain::Verdict;
+use grain::verdict_number;
 use tally::Kind;
 use tally::Tally;
 
@@ -13,16 +15,16 @@ use tally::Tally;
 fn kind_of(number: u32) -> Kind
     ensures { λ r. ⌜ r ≡ kindOfNumber number ⌝ }
 {
-    if number == 100 {
+    if number == verdict_number(Verdict::Free) {
         return Kind::Free;
     }
-    if number == 101 {
+    if number == verdict_number(Verdict::Within) {
         return Kind::Within;
     }
-    if number == 102 {
+    if number == verdict_number(Verdict::Below) {
         return Kind::Below;
     }
-    if number == 103 {
+    if number == verdict_number(Verdict::Above) {
         return Kind::Above;
     }
     Kind::Refused
@@ -38,12 +40,13 @@ fn answer(
     spot: u32,
     price: u32,
 ) -> u32
-    ensures { λ r. ⌜ r ≡ orElse (tallyRefusal t) (bareCheck product size settlement amount spot price) ⌝ }
+    ensures { λ r. ⌜ r ≡ cond (takes t) (bareCheck product size settlement amount spot price) (tallyRefusal t) ⌝ }
 {
     let n = tally::refusal(t);
     if n != 0 {
         return n;
     }
+    // By the export, not by grain: the compiler then makes the bare check a single function, with no call in it.
     botskhela_bare_check(product, size, settlement, amount, spot, price)
 }
 

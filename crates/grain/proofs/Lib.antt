@@ -1,4 +1,5 @@
 pub mod Ascending
+pub mod BareAnswers
 pub mod Below
 pub mod Calendars
 pub mod Columns

@@ -7,4 +7,5 @@ pub mod Dates
 pub mod Spot
 pub mod Check
 pub mod Refusals
+pub mod Bare
 pub mod Margin

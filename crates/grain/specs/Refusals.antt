@@ -1,6 +1,10 @@
 -- The number that a refused call returns, by name.
 use Prim.Native.Nat.{ℕ}
 
+-- the book or the tally is unsound
+abbrev pub unsound : ℕ
+unsound = 1
+
 -- no such date
 abbrev pub noSuchDate : ℕ
 noSuchDate = 3

@@ -1,6 +1,7 @@
-// The arithmetic of CBOT daily price limits: products, ticks, amounts, dates, spot and the judgement of a price.
+// The arithmetic of CBOT daily price limits: products, ticks, amounts, dates, spot, the judgement of a price and the bare check.
 // It knows no book. Every function that is exported here is total: it has no `requires`, and answers every u32.
 mod amounts;
+mod bare;
 mod check;
 mod dates;
 mod margin;
@@ -12,6 +13,10 @@ mod spot;
 pub use amounts::expanded;
 pub use amounts::is_fit_amount;
 pub use amounts::is_fit_founding;
+pub use bare::BareAnswer;
+pub use bare::bare_check;
+pub use bare::bare_number;
+pub use bare::verdict_number;
 pub use check::Verdict;
 pub use check::judge;
 pub use dates::is_date;

@@ -1,4 +1,6 @@
 // The number that a refused call returns, by name.
+pub const UNSOUND: u32 = 1;
+
 pub const NO_SUCH_DATE: u32 = 3;
 
 pub const NO_SUCH_PRODUCT: u32 = 5;

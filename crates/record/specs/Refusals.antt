@@ -3,10 +3,7 @@ use Prim.Native.Nat.{ℕ}
 use mathlib.Core.Bool.{Bool, cond}
 use mathlib.Core.List.{List, [], _∷_}
 use mathlib.Core.Option.{Option, some, none}
-
--- the Record is unsound
-abbrev pub unsound : ℕ
-unsound = 1
+pub use Rattle.grain.specs.Refusals.{unsound}
 
 -- opening with a day open; sheet, end or check with none
 abbrev pub wrongPhase : ℕ

@@ -1,5 +1,5 @@
 // The number that a refused call on a book returns, by name. Those that no book is needed for are grain's.
-pub const UNSOUND: u32 = 1;
+pub use grain::refusals::UNSOUND;
 
 pub const WRONG_PHASE: u32 = 2;
 

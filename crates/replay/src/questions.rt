@@ -9,7 +9,7 @@ use crate::text::put_refusal;
 use crate::text::put_verdict;
 use book::Book;
 use checking::Checked;
-use grain::Verdict;
+use grain::BareAnswer;
 
 fn check(b: Book, numbers: &Numbers, out: &mut Buffer, at: usize) -> usize {
     let checked = checking::check(b, numbers[0], numbers[1], numbers[2], numbers[3]);
@@ -19,9 +19,8 @@ fn check(b: Book, numbers: &Numbers, out: &mut Buffer, at: usize) -> usize {
     }
 }
 
-// By the numbers that C programs are answered with.
 fn bare(numbers: &Numbers, out: &mut Buffer, at: usize) -> usize {
-    let n = gateway::botskhela_bare_check(
+    let answer = grain::bare_check(
         numbers[0],
         numbers[1],
         numbers[2],
@@ -29,12 +28,9 @@ fn bare(numbers: &Numbers, out: &mut Buffer, at: usize) -> usize {
         numbers[4],
         numbers[5],
     );
-    match n {
-        100 => put_verdict(out, at, Verdict::Free),
-        101 => put_verdict(out, at, Verdict::Within),
-        102 => put_verdict(out, at, Verdict::Below),
-        103 => put_verdict(out, at, Verdict::Above),
-        _ => put_refusal(out, at, n),
+    match answer {
+        BareAnswer::Is(verdict) => put_verdict(out, at, verdict),
+        _ => put_refusal(out, at, grain::bare_number(answer)),
     }
 }
 

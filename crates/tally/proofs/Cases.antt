@@ -1,35 +1,28 @@
 -- Single tallies, computed.
 use mathlib.Core.Path.{_≡_, refl}
-use mathlib.Core.Option.{some, none}
-use Rattle.record.specs.Record.{refused}
-use Rattle.tally.specs.Tally.{isSoundTally, isFull, tallyRefusal, counted, tallyAfter}
+use Rattle.tally.specs.Tally.{isSoundTally, isFull, tallyRefusal}
 use Rattle.tally.specs.Through.{noCounts}
 
 -- six zeros take a check
-pub fresh : tallyRefusal noCounts ≡ none
+pub fresh : tallyRefusal noCounts ≡ 0
 unfolding tallyRefusal isSoundTally isFull
 fresh = refl
 
 -- a sum of 4,294,967,296 is not 0: 32 bits would not see it
-pub wrapped : tallyRefusal (record { asked = 0; free = 4294967295; within = 1; below = 0; above = 0; refused = 0 }) ≡ some 1
+pub wrapped : tallyRefusal (record { asked = 0; free = 4294967295; within = 1; below = 0; above = 0; refused = 0 }) ≡ 1
 unfolding tallyRefusal isSoundTally isFull
 wrapped = refl
 
-pub full : tallyRefusal (record { asked = 4294967295; free = 4294967290; within = 1; below = 1; above = 1; refused = 2 }) ≡ some 15
+pub full : tallyRefusal (record { asked = 4294967295; free = 4294967290; within = 1; below = 1; above = 1; refused = 2 }) ≡ 15
 unfolding tallyRefusal isSoundTally isFull
 full = refl
 
 -- 1 before 15
-pub unsoundAndFull : tallyRefusal (record { asked = 4294967295; free = 0; within = 0; below = 0; above = 0; refused = 0 }) ≡ some 1
+pub unsoundAndFull : tallyRefusal (record { asked = 4294967295; free = 0; within = 0; below = 0; above = 0; refused = 0 }) ≡ 1
 unfolding tallyRefusal isSoundTally isFull
 unsoundAndFull = refl
 
 -- the last check that a tally takes
-pub last : tallyRefusal (record { asked = 4294967294; free = 0; within = 0; below = 0; above = 0; refused = 4294967294 }) ≡ none
+pub last : tallyRefusal (record { asked = 4294967294; free = 0; within = 0; below = 0; above = 0; refused = 4294967294 }) ≡ 0
 unfolding tallyRefusal isSoundTally isFull
 last = refl
-
--- the book's own 1 is counted
-pub bookUnsound : tallyAfter noCounts (refused 1) ≡ record { asked = 1; free = 0; within = 0; below = 0; above = 0; refused = 1 }
-unfolding tallyAfter counted tallyRefusal isSoundTally isFull
-bookUnsound = refl

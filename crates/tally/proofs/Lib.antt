@@ -1,6 +1,5 @@
 pub mod Takes
-pub mod BookAnswers
+pub mod Counted
 pub mod Totals
 pub mod Proved
-pub mod Ties
 pub mod Cases

@@ -1,92 +1,94 @@
--- What holds of every list of checks through one tally, proved.
+-- What holds of every list of checks through one tally, proved for every call that keeps its contract.
 use Prim.Native.Nat.{ℕ, _+_}
 use mathlib.Core.Path.{_≡_, refl, sym, ap, _∙_}
 use mathlib.Core.Bool.{Bool, true, false}
 use mathlib.Core.List.{List, map}
-use mathlib.Core.Option.{some}
 use native.Mathlib.Omega.{arith}
-use borrow.Author.Tests.{eq-eqb}
-use Rattle.grain.specs.Lists.{_and_, every}
-use Rattle.record.specs.Refusals.{unsound}
-use Rattle.record.specs.Record.{Answer, refused}
-use Rattle.checking.specs.Checks.{checkedAs}
+use borrow.Author.Tests.{ne-eqb}
+use Rattle.grain.specs.Refusals.{unsound}
 use Rattle.tally.specs.declared.Tally.{Tally}
-use Rattle.tally.specs.Tally.{tallyFull, isSoundTally, isFull, tallyRefusal, counted, talliedAnswer, tallyAfter}
-use Rattle.tally.specs.Through.{Ask, Through, done, asks, noCounts, answerTo, answersThrough, tallyThrough, Counts, Refusing, ThroughOneTally}
-use Rattle.tally.proofs.Totals.{totals}
-
-answered : {t z : Tally} {cs : List Ask} {rs : List Answer} → Through t cs rs z → rs ≡ answersThrough t cs
-unfolding answersThrough
-answered done = refl
-answered (asks r k later) = rw (← (k .tally)) (cc (k .answer, answered later))
-
-left : {t z : Tally} {cs : List Ask} {rs : List Answer} → Through t cs rs z → z ≡ tallyThrough t cs
-unfolding tallyThrough
-left done = refl
-left (asks r k later) = rw (← (k .tally)) (left later)
+use Rattle.tally.specs.Tally.{tallyFull, isSoundTally, isFull, tallyRefusal, counted}
+use Rattle.tally.specs.Through.{Checks, Through, done, asks, noCounts, talliedAnswer, tallyAfter, answersThrough, tallyThrough, Counts, Refusing, ThroughOneTally}
+use Rattle.tally.proofs.Totals.{Lawful, totals}
 
 from-zero : (k m : ℕ) → k ≡ 0 + m → k ≡ m
 from-zero k m e = omega arith
 
-counts : (cs : List Ask) (rs : List Answer) (z : Tally) → Through noCounts cs rs z → Counts rs z
-unfolding isSoundTally
-counts cs rs z k =
-    let n = totals {t = noCounts} refl k in
-    record {
-      asked = from-zero (z .asked) _ (n .asked);
-      free = from-zero (z .free) _ (n .free);
-      within = from-zero (z .within) _ (n .within);
-      below = from-zero (z .below) _ (n .below);
-      above = from-zero (z .above) _ (n .above);
-      refused = from-zero (z .refused) _ (n .refused);
-    }
-
--- a tally that refuses with a number
-refusing : (n : ℕ) {t z : Tally} {cs : List Ask} {rs : List Answer} → tallyRefusal t ≡ some n → Through t cs rs z → Refusing t n rs z
-unfolding every _and_ talliedAnswer tallyAfter counted
-refusing n e done = record { answers = refl; tally = refl }
-refusing n {t} e (asks {u = u} r k later) =
-    let same : u ≡ t = rw e at (k .tally) in
-    let number : checkedAs r ≡ refused n = rw e at (k .answer) in
-    let rest = refusing n {t = u} (ap tallyRefusal same ∙ e) later in
-    record { answers = rw (number, eq-eqb n n refl) (rest .answers); tally = rest .tally ∙ same }
-
-unsound-refuses : (t : Tally) → isSoundTally t ≡ false → tallyRefusal t ≡ some unsound
+unsound-refuses : (t : Tally) → isSoundTally t ≡ false → tallyRefusal t ≡ unsound
 unfolding tallyRefusal
 unsound-refuses t e = rw e
 
-full-refuses : (t : Tally) → isSoundTally t ≡ true → isFull t ≡ true → tallyRefusal t ≡ some tallyFull
+full-refuses : (t : Tally) → isSoundTally t ≡ true → isFull t ≡ true → tallyRefusal t ≡ tallyFull
 unfolding tallyRefusal
 full-refuses t e f = rw (e, f)
 
--- a tally that is not full after a list was not full before it
-not-full-before : {t z : Tally} {cs : List Ask} {rs : List Answer} → isSoundTally t ≡ true → isFull z ≡ false
-    → Through t cs rs z → isFull t ≡ false
-not-full-before {t} {z} s f k = go (isFull t) refl
-  where
-    go : (x : Bool) → isFull t ≡ x → x ≡ false
-    go true e = sym e ∙ sym (ap isFull (refusing tallyFull (full-refuses t s e) k .tally)) ∙ f
-    go false e = refl
+module _ (k : Checks) (law : Lawful k) where
+  answered : {t z : Tally} {cs : List (k .Ask)} {rs : List (k .Answer)} → Through k t cs rs z → rs ≡ answersThrough k t cs
+  unfolding answersThrough
+  answered done = refl
+  answered {t} (asks {u = u} {c = c} {r = r} p later) = rw (← (law .tally t c r u p)) (cc (law .answers t c r u p, answered later))
 
-answers-kept : (t : Tally) (a : Answer) → isSoundTally t ≡ true → isFull t ≡ false → talliedAnswer t a ≡ a
-unfolding talliedAnswer tallyRefusal
-answers-kept t a s f = rw (s, f)
+  tally-after : {t z : Tally} {cs : List (k .Ask)} {rs : List (k .Answer)} → Through k t cs rs z → z ≡ tallyThrough k t cs
+  unfolding tallyThrough
+  tally-after done = refl
+  tally-after {t} (asks {u = u} {c = c} {r = r} p later) = rw (← (law .tally t c r u p)) (tally-after later)
 
-until-full : {t z : Tally} {cs : List Ask} {rs : List Answer} → isSoundTally t ≡ true → isFull z ≡ false
-    → Through t cs rs z → rs ≡ map answerTo cs
-until-full s f done = refl
-until-full {t} s f (asks {c = c} r k later) =
-    let same : checkedAs r ≡ answerTo c = k .answer ∙ answers-kept t (answerTo c) s (not-full-before s f (asks r k later)) in
-    cc (same, until-full (totals s (asks r k done) .sound) f later)
+  counts : (cs : List (k .Ask)) (rs : List (k .Answer)) (z : Tally) → Through k noCounts cs rs z → Counts k rs z
+  unfolding isSoundTally
+  counts cs rs z p =
+      let n = totals k law {t = noCounts} refl p in
+      record {
+        asked = from-zero (z .asked) _ (n .asked);
+        free = from-zero (z .free) _ (n .free);
+        within = from-zero (z .within) _ (n .within);
+        below = from-zero (z .below) _ (n .below);
+        above = from-zero (z .above) _ (n .above);
+        refused = from-zero (z .refused) _ (n .refused);
+      }
 
-pub through-one-tally : ThroughOneTally
-through-one-tally =
-    record {
-      answered = λ t cs rs z k. answered k;
-      left = λ t cs rs z k. left k;
-      counts = counts;
-      staysSound = λ t cs rs z s k. totals s k .sound;
-      untilFull = λ t cs rs z s f k. until-full s f k;
-      byUnsound = λ t cs rs z e k. refusing unsound (unsound-refuses t e) k;
-      byFull = λ t cs rs z e f k. refusing tallyFull (full-refuses t e f) k;
-    }
+  -- a tally that refuses with a number
+  refusing : (n : ℕ) → (n ≡ 0 → ⊥) → {t z : Tally} {cs : List (k .Ask)} {rs : List (k .Answer)} → tallyRefusal t ≡ n
+      → Through k t cs rs z → Refusing k t n cs rs z
+  unfolding talliedAnswer tallyAfter counted
+  refusing n f e done = record { answers = refl; tally = refl }
+  refusing n f {t} e (asks {u = u} {c = c} {r = r} p later) =
+      let same : u ≡ t = rw (e, ne-eqb n 0 f) at (law .tally t c r u p) in
+      let number : r ≡ k .refused n = rw (e, ne-eqb n 0 f) at (law .answers t c r u p) in
+      let rest = refusing n f {t = u} (ap tallyRefusal same ∙ e) later in
+      record { answers = cc (number, rest .answers); tally = rest .tally ∙ same }
+
+  by-full : {t z : Tally} {cs : List (k .Ask)} {rs : List (k .Answer)} → isSoundTally t ≡ true → isFull t ≡ true
+      → Through k t cs rs z → Refusing k t tallyFull cs rs z
+  by-full {t} s f p = refusing tallyFull (λ e. omega arith) (full-refuses t s f) p
+
+  -- a tally that is not full after a list was not full before it
+  not-full-before : {t z : Tally} {cs : List (k .Ask)} {rs : List (k .Answer)} → isSoundTally t ≡ true → isFull z ≡ false
+      → Through k t cs rs z → isFull t ≡ false
+  not-full-before {t} {z} s f p = go (isFull t) refl
+    where
+      go : (x : Bool) → isFull t ≡ x → x ≡ false
+      go true e = sym e ∙ sym (ap isFull (by-full s e p .tally)) ∙ f
+      go false e = refl
+
+  answer-kept : (t : Tally) (c : k .Ask) → isSoundTally t ≡ true → isFull t ≡ false → talliedAnswer k t c ≡ k .answerTo c
+  unfolding talliedAnswer tallyRefusal
+  answer-kept t c s f = rw (s, f)
+
+  until-full : {t z : Tally} {cs : List (k .Ask)} {rs : List (k .Answer)} → isSoundTally t ≡ true → isFull z ≡ false
+      → Through k t cs rs z → rs ≡ map (k .answerTo) cs
+  until-full s f done = refl
+  until-full {t} s f (asks {u = u} {c = c} {r = r} p later) =
+      let same : r ≡ k .answerTo c = law .answers t c r u p ∙ answer-kept t c s (not-full-before s f (asks p later)) in
+      cc (same, until-full (totals k law s (asks p done) .sound) f later)
+
+  pub through-one-tally : ThroughOneTally k
+  through-one-tally =
+      record {
+        answers = λ t cs rs z p. answered p;
+        tally = λ t cs rs z p. tally-after p;
+        counts = counts;
+        staysSound = λ t cs rs z s p. totals k law s p .sound;
+        untilFull = λ t cs rs z s f p. until-full s f p;
+        byUnsound = λ t cs rs z e p. refusing unsound (λ e. omega arith) (unsound-refuses t e) p;
+        byFull = λ t cs rs z e f p. by-full e f p;
+      }

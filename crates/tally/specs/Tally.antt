@@ -1,13 +1,10 @@
--- A tally: when it refuses, and what a check through it answers and leaves.
+-- A tally: when it refuses a check, and what it is after one that it takes.
 use Prim.Native.Nat.{ℕ, _+_}
-use mathlib.Core.Bool.{Bool, not}
-use mathlib.Core.List.{[], _∷_}
-use mathlib.Core.Option.{Option, some, none}
+use mathlib.Core.Bool.{Bool, not, cond}
 use lib.Dec.{eqb}
+use Rattle.grain.specs.Refusals.{unsound}
 use Rattle.grain.specs.declared.check.Verdict.{Verdict}
 use Rattle.grain.specs.declared.check.Verdict.the-variants as verdict
-use Rattle.record.specs.Refusals.{when, first, unsound}
-use Rattle.record.specs.Record.{Answer, refused, opened, filed, ended, checked, answerBy}
 use Rattle.tally.specs.declared.Tally.{Tally}
 use Rattle.tally.specs.declared.Kind.{Kind}
 use Rattle.tally.specs.declared.Kind.the-variants.{Free, Within, Below, Above, Refused}
@@ -26,23 +23,18 @@ isSoundTally t = eqb (t .asked) (sumOf t)
 unfoldable pub isFull : Tally → Bool
 isFull t = eqb (t .asked) 4294967295
 
--- the number with which a tally refuses every check
-unfoldable pub tallyRefusal : Tally → Option ℕ
-tallyRefusal t = first (when (not (isSoundTally t)) unsound ∷ when (isFull t) tallyFull ∷ [])
+-- the number with which a tally refuses every check, 1 before 15; 0 where it takes one more
+unfoldable pub tallyRefusal : Tally → ℕ
+tallyRefusal t = cond (not (isSoundTally t)) unsound (cond (isFull t) tallyFull 0)
+
+abbrev pub takes : Tally → Bool
+takes t = eqb (tallyRefusal t) 0
 
 abbrev pub kindOfVerdict : Verdict → Kind
 kindOfVerdict verdict.Free = Free
 kindOfVerdict verdict.Within = Within
 kindOfVerdict verdict.Below = Below
 kindOfVerdict verdict.Above = Above
-
--- a check is answered by a verdict or a refusal
-abbrev pub kindOf : Answer → Kind
-kindOf (checked v) = kindOfVerdict v
-kindOf (refused n) = Refused
-kindOf (opened l) = Refused
-kindOf filed = Refused
-kindOf (ended l) = Refused
 
 -- one more asked, and one more of the kind
 abbrev pub oneMore : Tally → Kind → Tally
@@ -52,18 +44,6 @@ oneMore t Below = record { asked = t .asked + 1; free = t .free; within = t .wit
 oneMore t Above = record { asked = t .asked + 1; free = t .free; within = t .within; below = t .below; above = t .above + 1; refused = t .refused }
 oneMore t Refused = record { asked = t .asked + 1; free = t .free; within = t .within; below = t .below; above = t .above; refused = t .refused + 1 }
 
-abbrev pub keptBy : Option ℕ → Tally → Tally → Tally
-keptBy (some n) t u = t
-keptBy none t u = u
-
 -- a tally that refuses stays as it is
 unfoldable pub counted : Tally → Kind → Tally
-counted t k = keptBy (tallyRefusal t) t (oneMore t k)
-
--- what a check through a tally answers, where the book's answer is the second
-unfoldable pub talliedAnswer : Tally → Answer → Answer
-talliedAnswer t a = answerBy (tallyRefusal t) a
-
--- and the tally that it leaves
-unfoldable pub tallyAfter : Tally → Answer → Tally
-tallyAfter t a = counted t (kindOf a)
+counted t k = cond (takes t) (oneMore t k) t

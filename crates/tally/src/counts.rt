@@ -1,13 +1,11 @@
 // The counts of a tally: whether it takes one more check, and one more check.
 ghost use denote.Ref.{now};
 ghost use mathlib.Core.Path.{_≡_};
-ghost use mathlib.Core.Option.{none};
-ghost use Rattle.record.specs.Choices.{orElse};
 ghost use Rattle.tally.specs.Tally.{sumOf, tallyRefusal, oneMore, counted as countedIn};
 use crate::Kind;
 use crate::TALLY_FULL;
 use crate::Tally;
-use record::refusals::UNSOUND;
+use grain::refusals::UNSOUND;
 
 // The most that a count of 32 bits holds.
 const MOST: u64 = 4294967295;
@@ -21,7 +19,7 @@ fn sum_of(t: Tally) -> u64
 
 // The number with which a tally refuses every check, or 0.
 pub fn refusal(t: Tally) -> u32
-    ensures { λ r. ⌜ r ≡ orElse (tallyRefusal t) 0 ⌝ }
+    ensures { λ r. ⌜ r ≡ tallyRefusal t ⌝ }
 {
     let sum = sum_of(t);
     let asked = t.asked as u64;
@@ -35,7 +33,7 @@ pub fn refusal(t: Tally) -> u32
 }
 
 fn one_more(t: Tally, kind: Kind) -> Tally
-    requires { ⌜ tallyRefusal t ≡ none ⌝ }
+    requires { ⌜ tallyRefusal t ≡ 0 ⌝ }
     ensures { λ r. ⌜ r ≡ oneMore t kind ⌝ }
 {
     let mut u = t;

@@ -1,11 +1,6 @@
-// A gateway's tally: six counts of the checks through it, lent by &mut.
-ghost use denote.Ref.{now};
+// A gateway's tally: six counts of the checks through it, lent by &mut. It knows no book.
 ghost use mathlib.Core.Path.{_≡_};
-ghost use Rattle.checking.specs.Checks.{checkedAs};
-ghost use Rattle.tally.specs.Tally.{kindOfVerdict, kindOf, talliedAnswer};
-ghost use Rattle.tally.specs.Tallies.{bookAnswer, Tallies};
-use book::Book;
-use checking::Checked;
+ghost use Rattle.tally.specs.Tally.{kindOfVerdict};
 use grain::Verdict;
 
 mod counts;
@@ -36,7 +31,7 @@ pub enum Kind {
     Refused,
 }
 
-fn kind_of_verdict(verdict: Verdict) -> Kind
+pub fn kind_of_verdict(verdict: Verdict) -> Kind
     ensures { λ r. ⌜ r ≡ kindOfVerdict verdict ⌝ }
 {
     match verdict {
@@ -45,41 +40,4 @@ fn kind_of_verdict(verdict: Verdict) -> Kind
         Verdict::Below => Kind::Below,
         Verdict::Above => Kind::Above,
     }
-}
-
-fn kind_of(answer: Checked) -> Kind
-    ensures { λ r. ⌜ r ≡ kindOf (checkedAs answer) ⌝ }
-{
-    match answer {
-        Checked::Is(verdict) => kind_of_verdict(verdict),
-        Checked::Refused(_) => Kind::Refused,
-    }
-}
-
-// The tally's own refusals come first.
-fn answer(b: Book, t: Tally, product: u32, size: u32, month: u32, price: u32) -> Checked
-    ensures { λ r. ⌜ checkedAs r ≡ talliedAnswer t (bookAnswer b product size month price) ⌝ }
-{
-    let n = refusal(t);
-    if n != 0 {
-        return Checked::Refused(n);
-    }
-    checking::check(b, product, size, month, price)
-}
-
-pub fn tallied_check(
-    b: Book,
-    t: &mut Tally,
-    product: u32,
-    size: u32,
-    month: u32,
-    price: u32,
-) -> Checked
-    ensures { λ r. ⌜ Tallies b (now (t .entry)) product size month price r (now (t .exit)) ⌝ }
-{
-    let r = answer(b, *t, product, size, month, price);
-    let kind = kind_of(r);
-    // A tally that refuses is left as it is.
-    count(t, kind);
-    r
 }

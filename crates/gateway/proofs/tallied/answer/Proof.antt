@@ -1,5 +1,6 @@
 use borrow.Author.Needs.{needs}
-use Rattle.tally.proofs.Takes.{refuses, takes}
+use borrow.Author.Tests.{eq-eqb, ne-eqb}
+use mathlib.Core.Path.{sym, _∙_}
 use Rattle.gateway.proofs.tallied.answer.Statement.{statement}
 use Rattle.gateway.proofs.tallied.answer.Tie as tie
 
@@ -8,16 +9,14 @@ refusal-requires c κs = search needs
 
 returns : tie.Need-returns
 returns c =
-    let s = c .before .before in
-    rw (refuses (s .args .t) (c .before .refusal .result) (c .before .refusal .ensures) (c .if1 .taken))
+    let n = c .before .refusal in rw (ne-eqb _ 0 (λ e. c .if1 .taken (n .ensures ∙ e))) (n .ensures)
 
 botskhela-bare-check-requires : tie.Need-botskhela-bare-check-requires
 botskhela-bare-check-requires c κs = search needs
 
 returns-2 : tie.Need-returns-2
 returns-2 c =
-    let k = c .before .before in
-    rw (takes (k .before .args .t) (k .refusal .result) (k .refusal .ensures) (c .before .if1 .left)) (c .botskhela-bare-check .ensures)
+    rw (eq-eqb _ 0 (sym (c .before .before .refusal .ensures) ∙ c .before .if1 .left)) (c .botskhela-bare-check .ensures)
 
 pub answer-spec : {M : Type 1} → statement M
 answer-spec = tie.close (tie.spec refusal-requires returns botskhela-bare-check-requires returns-2)

@@ -4,12 +4,12 @@ use mathlib.Core.Bool.{true, false}
 use lib.Dec.{eqb}
 use borrow.Author.Needs.{needs}
 use borrow.Author.Tests.{eq-eqb, ne-eqb, not-true, not-false}
 use Rattle.grain.specs.Products.{tickOf}
 use Rattle.grain.specs.Prices.{isPrice, isSettlement}
 use Rattle.grain.specs.Amounts.{isFitAmount}
-use Rattle.gateway.specs.Bare.{bareAnswer}
-use Rattle.gateway.proofs.bare_answer.Statement.{statement}
-use Rattle.gateway.proofs.bare_answer.Tie as tie
+use Rattle.grain.specs.Bare.{bareCheck}
+use Rattle.grain.proofs.bare.bare_check.Statement.{statement}
+use Rattle.grain.proofs.bare.bare_check.Tie as tie
 
 offered : (c : tie.Else1) → eqb (tickOf (c .before .before .args .product) (c .before .before .args .size)) 0 ≡ false
 offered c = ne-eqb _ _ (λ e. c .if1 .left (c .before .tick .ensures ∙ e))
@@ -35,14 +35,14 @@ tick-requires : tie.Need-tick-requires
 tick-requires c κs = search needs
 
 returns : tie.Need-returns
-unfolding bareAnswer
+unfolding bareCheck
 returns c = simp (eq-eqb _ _ (sym (c .before .tick .ensures) ∙ c .if1 .taken))
 
 is-settlement-requires : tie.Need-is-settlement-requires
 is-settlement-requires c κs = search needs
 
 returns-2 : tie.Need-returns-2
-unfolding bareAnswer
+unfolding bareCheck
 returns-2 c =
     simp (offered (c .before .before), sym (c .before .is-settlement .ensures) ∙ not-true _ (c .if2 .taken))
 
@@ -50,7 +50,7 @@ is-on-tick-requires : tie.Need-is-on-tick-requires
 is-on-tick-requires c κs = search needs
 
 returns-3 : tie.Need-returns-3
-unfolding bareAnswer
+unfolding bareCheck
 returns-3 c =
     let k = c .before .before in
     let off =
@@ -61,7 +61,7 @@ is-fit-amount-requires : tie.Need-is-fit-amount-requires
 is-fit-amount-requires c κs = search needs
 
 returns-4 : tie.Need-returns-4
-unfolding bareAnswer
+unfolding bareCheck
 returns-4 c =
     let k = c .before .before in
     simp
@@ -71,14 +71,14 @@ judge-requires : tie.Need-judge-requires
 judge-requires c κs = search needs
 
 returns-5 : tie.Need-returns-5
-unfolding bareAnswer
+unfolding bareCheck
 returns-5 c =
     let k = c .before in
     simp
     (offered (k .before .before .before .before .before .before), settled (k .before .before .before .before), priced (k .before .before), fit k, c .judge .ensures)
 
-pub bare-answer-spec : {M : Type 1} → statement M
-bare-answer-spec =
+pub bare-check-spec : {M : Type 1} → statement M
+bare-check-spec =
     tie.close
     (tie.spec
     tick-requires

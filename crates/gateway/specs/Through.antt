@@ -1,0 +1,33 @@
+-- Bare checks through one tally, one after another: what is shown of every list of them is the tally's own theorem (ThroughOneTally).
+use Prim.Native.Nat.{ℕ}
+use lib.Dec.{eqb}
+use Rattle.grain.specs.Bare.{bareCheck}
+use Rattle.tally.specs.Tally.{tallyFull}
+use Rattle.tally.specs.Through.{Checks, ThroughOneTally}
+use Rattle.gateway.specs.Tallied.{kindOfNumber, TalliesBare}
+
+pub record Order : Type 0 where
+  pub product : ℕ
+  pub size : ℕ
+  pub settlement : ℕ
+  pub amount : ℕ
+  pub spot : ℕ
+  pub price : ℕ
+
+-- the answers are numbers; no bare check answers 1 or 15
+abbrev pub bareChecks : Checks
+bareChecks =
+    record {
+      Ask = Order;
+      Answer = ℕ;
+      answerTo = λ o. bareCheck (o .product) (o .size) (o .settlement) (o .amount) (o .spot) (o .price);
+      kindOf = kindOfNumber;
+      refused = λ n. n;
+      isTallyFull = λ n. eqb n tallyFull;
+      Promise = λ t o r u. TalliesBare t (o .product) (o .size) (o .settlement) (o .amount) (o .spot) (o .price) r u;
+    }
+
+-- From six zeros asked is the number of counted checks, and each count the number of the answers of its kind; a sound tally stays sound;
+-- until it is full each answer is the bare check's; 1 before 15.
+abbrev pub BareThroughOneTally : Type 0
+BareThroughOneTally = ThroughOneTally bareChecks

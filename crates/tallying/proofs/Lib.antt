@@ -1,0 +1,3 @@
+pub mod BookAnswers
+pub mod Proved
+pub mod Ties
