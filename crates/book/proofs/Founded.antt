@@ -36,11 +36,11 @@ pub record Blank (b : Book) : Type 0 where
   pub today : b .today ≡ replicate 8 emptySheet
   pub last : b .last ≡ replicate 8 emptySheet
   pub day : b .day ≡ noDay
-  pub trading : b .trading ≡ false
+  pub isOpen : b .«is_open» ≡ false
 
 pub no-book-blank : Blank noBook
 unfolding noBook
-no-book-blank = record { standings = refl; windows = refl; today = refl; last = refl; day = refl; trading = refl }
+no-book-blank = record { standings = refl; windows = refl; today = refl; last = refl; day = refl; isOpen = refl }
 
 pub no-book-long : length (noBook .limits) ≡ 8
 unfolding noBook
@@ -63,4 +63,4 @@ module _ (b : Book) (s : Start) (blank : Blank b) (limits : (p : ℕ) → p < 8 
   pub founded-shown : view b ≡ founded s
   unfolding view viewCommon viewGroup viewProduct founded foundGroup foundProduct groupTable
   founded-shown =
-      rw (blank .day, blank .trading, blank .standings, product-shown 0 (ltb-true 0 8 refl), product-shown 1 (ltb-true 1 8 refl), product-shown 2 (ltb-true 2 8 refl), product-shown 3 (ltb-true 3 8 refl), product-shown 4 (ltb-true 4 8 refl), product-shown 5 (ltb-true 5 8 refl), product-shown 6 (ltb-true 6 8 refl), product-shown 7 (ltb-true 7 8 refl))
+      rw (blank .day, blank .isOpen, blank .standings, product-shown 0 (ltb-true 0 8 refl), product-shown 1 (ltb-true 1 8 refl), product-shown 2 (ltb-true 2 8 refl), product-shown 3 (ltb-true 3 8 refl), product-shown 4 (ltb-true 4 8 refl), product-shown 5 (ltb-true 5 8 refl), product-shown 6 (ltb-true 6 8 refl), product-shown 7 (ltb-true 7 8 refl))

@@ -7,9 +7,9 @@ use lib.Dec.{ltb, eqb}
 use lib.ListN.{getD}
 use borrow.Author.Tests.{ltb-true, eqb-true, ne-eqb}
 use Rattle.grain.proofs.Below.{below}
-use Rattle.record.specs.State.{Level, Group, groupTable, groupOf, groupAt, productIn, limitAt, limitIn}
+use Rattle.record.specs.State.{Level, Group, groupTable, groupOf, groupAt, productIn, limitAt, todaysLimit}
 use Rattle.book.specs.declared.Book.{Book}
-use Rattle.book.specs.Book.{limitIn as bookLimit, standingIn, levelOf, viewProduct, viewGroup, view}
+use Rattle.book.specs.Book.{limitIn, standingIn, levelOf, viewProduct, viewGroup, view}
 use Rattle.book.proofs.Views.{group-is, product-is}
 
 -- the group of each product in one list
@@ -31,7 +31,7 @@ no-group p h =
     rw
     (ne-eqb p 0 (omega arith), ne-eqb p 1 (omega arith), ne-eqb p 2 (omega arith), ne-eqb p 3 (omega arith), ne-eqb p 4 (omega arith), ne-eqb p 5 (omega arith), ne-eqb p 6 (omega arith), ne-eqb p 7 (omega arith))
 
-pub no-limit : (b : Book) (p : ℕ) → 8 ≤ p → limitIn (groupAt (view b) (groupOf p)) p ≡ 0
+pub no-limit : (b : Book) (p : ℕ) → 8 ≤ p → todaysLimit (groupAt (view b) (groupOf p)) p ≡ 0
 unfolding view groupTable
 no-limit b p h = rw (no-group p h)
 
@@ -40,8 +40,8 @@ unfolding viewGroup
 level-is b p l = ap (λ (g : Group). g .level) (group-is b p l)
 
 pub limit-is : (b : Book) (p : ℕ) → p < 8
-    → limitIn (groupAt (view b) (groupOf p)) p
-    ≡ limitAt (levelOf (standingIn b (groupOf p) .expanded)) (bookLimit b p .initial) (bookLimit b p .expanded)
+    → todaysLimit (groupAt (view b) (groupOf p)) p
+    ≡ limitAt (levelOf (standingIn b (groupOf p) .expanded)) (limitIn b p .initial) (limitIn b p .expanded)
 unfolding viewProduct
 limit-is b p l =
     ap (λ (v : Level). limitAt v (productIn (groupAt (view b) (groupOf p)) p .initialLimit) (productIn (groupAt (view b) (groupOf p)) p .expandedLimit)) (level-is b p l)

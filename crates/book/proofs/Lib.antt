@@ -11,4 +11,4 @@ pub mod Unfounded
 pub mod Views
 pub mod Groups
 pub mod Numbered
-pub mod Steps
+pub mod Responses

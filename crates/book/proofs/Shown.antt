@@ -87,9 +87,9 @@ groups-shown b =
 -- the tests of a book, one after the other
 pub sound-is : (b : Book)
     → isSound (view b)
-    ≡ (isSoundCommon (record { opened = openedOf (b .day); isOpen = b .trading })
+    ≡ (isSoundCommon (record { opened = openedOf (b .day); isOpen = b .«is_open» })
     and (every (λ g. isMarkSound (standingIn b g)) six and every (λ p. isSoundProduct (viewProduct b p)) eight)
-    and (b .trading || every (λ p. not (isSome (sheetIn (todayIn b p)))) eight)
+    and (b .«is_open» || every (λ p. not (isSome (sheetIn (todayIn b p)))) eight)
     and ((isSome (openedOf (b .day)) and every (λ p. isSome (sheetIn (lastIn b p))) eight)
     || every (λ p. not (isSome (sheetIn (lastIn b p)))) eight))
 unfolding isSound view viewCommon viewProduct
@@ -97,7 +97,7 @@ sound-is b =
     ap₂ _and_
     (ap₂ _and_
     (ap (isSoundCommon (viewCommon b) and_) (groups-shown b))
-    (ap (b .trading ||_) (flat b (λ q. not (isSome (q .today))))))
+    (ap (b .«is_open» ||_) (flat b (λ q. not (isSome (q .today))))))
     (ap₂ _||_
     (ap (isSome (openedOf (b .day)) and_) (flat b (λ q. isSome (q .last))))
     (flat b (λ q. not (isSome (q .last)))))
@@ -105,10 +105,10 @@ sound-is b =
 -- the same, the products' windows apart
 pub sound-tests : (b : Book)
     → isSound (view b)
-    ≡ (isSoundCommon (record { opened = openedOf (b .day); isOpen = b .trading })
+    ≡ (isSoundCommon (record { opened = openedOf (b .day); isOpen = b .«is_open» })
     and (every (λ g. isMarkSound (standingIn b g)) six
     and (every (λ p. areItemsSound p (limitIn b p) (todayIn b p) (lastIn b p)) eight and every (isWindowSound (b .windows)) eight))
-    and (b .trading || every (λ p. not (isSome (sheetIn (todayIn b p)))) eight)
+    and (b .«is_open» || every (λ p. not (isSome (sheetIn (todayIn b p)))) eight)
     and ((isSome (openedOf (b .day)) and every (λ p. isSome (sheetIn (lastIn b p))) eight)
     || every (λ p. not (isSome (sheetIn (lastIn b p)))) eight))
 sound-tests b = sound-is b ∙ rw (products-tests b)

@@ -75,7 +75,7 @@ facts b p t =
     record { short = and-left _ _ w; window = and-right _ _ w; today = and-right _ _ t₅; last = and-right _ _ t }
 
 module _ (b : Book) (sound : isSound (view b) ≡ true) where
-  common-sound : isSoundCommon (record { opened = openedOf (b .day); isOpen = b .trading }) ≡ true
+  common-sound : isSoundCommon (record { opened = openedOf (b .day); isOpen = b .«is_open» }) ≡ true
   common-sound = and-left _ _ (and-left _ _ (and-left _ _ (sym (sound-is b) ∙ sound)))
 
   module _ (p : ℕ) (l : p < 8) where
@@ -100,20 +100,20 @@ module _ (b : Book) (sound : isSound (view b) ≡ true) where
     pub today-ascending : isAscending (monthsOf (contractsOf (todayIn b p))) ≡ true
     today-ascending = sheet-ascending p (todayIn b p) (facts b p product-sound .today)
 
-  pub open-day : b .trading ≡ true → openedOf (b .day) ≡ some (b .day)
+  pub open-day : b .«is_open» ≡ true → openedOf (b .day) ≡ some (b .day)
   unfolding isSoundCommon
   open-day e = go (isNoDay (b .day)) common-sound
     where
-      go : (n : Bool) → isSoundCommon (record { opened = cond n none (some (b .day)); isOpen = b .trading }) ≡ true
+      go : (n : Bool) → isSoundCommon (record { opened = cond n none (some (b .day)); isOpen = b .«is_open» }) ≡ true
           → cond n none (some (b .day)) ≡ some (b .day)
-      go true t = let z : not (b .trading) ≡ true = t in cc
+      go true t = let z : not (b .«is_open») ≡ true = t in cc
       go false t = refl
 
   pub true-day : (d : Day) → openedOf (b .day) ≡ some d → isTrueDay (b .day) ≡ true
   unfolding isSoundCommon
   true-day d e = go (isNoDay (b .day)) common-sound e
     where
-      go : (n : Bool) → isSoundCommon (record { opened = cond n none (some (b .day)); isOpen = b .trading }) ≡ true
+      go : (n : Bool) → isSoundCommon (record { opened = cond n none (some (b .day)); isOpen = b .«is_open» }) ≡ true
           → cond n none (some (b .day)) ≡ some d → isTrueDay (b .day) ≡ true
       go true t e = let z : _≡_ {A = Option Day} none (some d) = e in cc
       go false t e = t
@@ -130,7 +130,7 @@ pub day-is : (b : Book) → dayOf (viewCommon b) ≡ b .day
 unfolding viewCommon
 day-is b = go (isNoDay (b .day)) refl
   where
-    go : (n : Bool) → isNoDay (b .day) ≡ n → dayOf (record { opened = cond n none (some (b .day)); isOpen = b .trading }) ≡ b .day
+    go : (n : Bool) → isNoDay (b .day) ≡ n → dayOf (record { opened = cond n none (some (b .day)); isOpen = b .«is_open» }) ≡ b .day
     go true e = zeros (b .day .year) (b .day .month) (b .day .day) (b .day .left) e
     go false e = refl
 
@@ -139,5 +139,5 @@ pub day-in : (b : Book) → dayOf (view b .common) ≡ b .day
 unfolding view
 day-in b = day-is b
 
-pub open-true : (b : Book) → isSound (view b) ≡ true → b .trading ≡ true → isTrueDay (b .day) ≡ true
-open-true b sound trading = true-day b sound (b .day) (open-day b sound trading)
+pub open-true : (b : Book) → isSound (view b) ≡ true → b .«is_open» ≡ true → isTrueDay (b .day) ≡ true
+open-true b sound is = true-day b sound (b .day) (open-day b sound is)

@@ -37,9 +37,9 @@ pub product-is : (b : Book) (p : ℕ) → p < 8 → productIn (groupAt (view b) 
 unfolding view groupTable viewGroup viewProduct
 product-is b = each _ refl refl refl refl refl refl refl refl
 
-pub trading-is : (b : Book) → view b .common .isOpen ≡ b .trading
+pub open-is : (b : Book) → view b .common .isOpen ≡ b .«is_open»
 unfolding view viewCommon
-trading-is b = refl
+open-is b = refl
 
 -- from what a call does to each product and each group to the view
 module _ (b z : Book) (f : Product → Product) where

@@ -28,7 +28,7 @@ noBook =
       today = replicate 8 emptySheet;
       last = replicate 8 emptySheet;
       day = noDay;
-      trading = false;
+      «is_open» = false;
     }
 
 pub record Founds (s : Start) (r : Founding) : Type 0 where

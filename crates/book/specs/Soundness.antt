@@ -4,10 +4,12 @@ use Prim.Native.Nat.{ℕ}
 use mathlib.Core.Bool.{Bool, not, _||_}
 use mathlib.Core.List.{List, [], _∷_}
 use lib.Dec.{leb, eqb}
-use lib.ListN.{length}
+use lib.ListN.{length, getD}
 use Rattle.grain.specs.Lists.{_and_, every}
 use Rattle.grain.specs.Prices.{isSettlement}
 use Rattle.grain.specs.Amounts.{expandedOf, isFitAmount}
+use Rattle.record.specs.declared.Day.{Day}
+use Rattle.record.specs.Choices.{isSome}
 use Rattle.record.specs.Sound.{isSoundSheet}
 use Rattle.sheets.specs.declared.Sheet.{Sheet}
 use Rattle.sheets.specs.Sheets.{sheetIn}
@@ -15,6 +17,7 @@ use Rattle.windows.specs.declared.Windows.{Windows}
 use Rattle.windows.specs.Windows.{windowOf}
 use Rattle.book.specs.declared.Limit.{Limit}
 use Rattle.book.specs.declared.Standing.{Standing}
+use Rattle.book.specs.Book.{noSheet, openedOf}
 
 -- the products
 abbrev pub eight : List ℕ
@@ -23,6 +26,20 @@ eight = 0 ∷ 1 ∷ 2 ∷ 3 ∷ 4 ∷ 5 ∷ 6 ∷ 7 ∷ []
 -- the groups
 abbrev pub six : List ℕ
 six = 0 ∷ 1 ∷ 2 ∷ 3 ∷ 4 ∷ 5 ∷ []
+
+-- the sheet of product p is there
+abbrev pub hasSheet : List Sheet → ℕ → Bool
+hasSheet sheets p = isSome (sheetIn (getD sheets p noSheet))
+
+abbrev pub areAllIn : List Sheet → Bool
+areAllIn sheets = every (hasSheet sheets) eight
+
+abbrev pub areAllMissing : List Sheet → Bool
+areAllMissing sheets = every (λ p. not (hasSheet sheets p)) eight
+
+-- the last ended sheets are all there, with a date, or none is
+abbrev pub areLastSound : Day → List Sheet → Bool
+areLastSound d last = (isSome (openedOf d) and areAllIn last) || areAllMissing last
 
 -- a mark only on an expanded group
 abbrev pub isMarkSound : Standing → Bool

@@ -1,7 +1,7 @@
 // The trade date of a day that a book holds.
 ghost use mathlib.Core.Path.{_≡_};
 ghost use Rattle.book.specs.Dates.{tradeDateOf, datedAs};
-use grain::Calendar;
+use grain::DateFacts;
 use grain::TradeDate;
 use record::Day;
 
@@ -14,11 +14,11 @@ pub enum Dated {
 pub fn trade_date(d: Day) -> Dated
     ensures { λ r. ⌜ r ≡ datedAs (tradeDateOf d) ⌝ }
 {
-    let Calendar::On {
+    let DateFacts::On {
         month,
         season: _,
         remaining: _,
-    } = grain::calendar_of(d.year, d.month, d.day)
+    } = grain::date_facts(d.year, d.month, d.day)
     else {
         return Dated::NoDay;
     };

@@ -61,7 +61,7 @@ fn no_book() -> Book
             day: 0,
             left: 0,
         },
-        trading: false,
+        is_open: false,
     }
 }
 

@@ -41,5 +41,5 @@ pub struct Book {
     // The last opened day; all four fields are 0 where there is none.
     pub day: Day,
     // A day is open.
-    pub trading: bool,
+    pub is_open: bool,
 }

@@ -1,6 +1,6 @@
 // Today's limit of a product: what a check and a sheet's changes go by.
 ghost use mathlib.Core.Path.{_≡_};
-ghost use Rattle.record.specs.State.{groupOf, groupAt, limitIn};
+ghost use Rattle.record.specs.State.{groupOf, groupAt, todaysLimit};
 ghost use Rattle.book.specs.Book.{view};
 use crate::Book;
 
@@ -20,7 +20,7 @@ pub fn group_of(p: usize) -> usize
 impl Book {
     // I or E, by the level of the product's group; 0 where there is no such product.
     pub fn limit_of(self, p: usize) -> u32
-        ensures { λ r. ⌜ r ≡ limitIn (groupAt (view self) (groupOf p)) p ⌝ }
+        ensures { λ r. ⌜ r ≡ todaysLimit (groupAt (view self) (groupOf p)) p ⌝ }
     {
         if 8 <= p {
             return 0;

@@ -1,20 +1,18 @@
 // Whether a book is sound: every field in its range, and the parts in agreement.
 ghost use mathlib.Core.Path.{_≡_};
-ghost use mathlib.Core.Bool.{not, _||_};
+ghost use mathlib.Core.Bool.{_||_};
 ghost use lib.Dec.{eqb};
 ghost use lib.ListN.{getD};
 ghost use Rattle.grain.specs.Lists.{_and_, every};
 ghost use Rattle.grain.specs.Amounts.{expandedOf, isFitAmount};
-ghost use Rattle.record.specs.Choices.{isSome};
 ghost use Rattle.record.specs.Opening.{isTrueDay};
 ghost use Rattle.record.specs.Sound.{isSoundCommon, isSound};
-ghost use Rattle.sheets.specs.Sheets.{sheetIn};
-ghost use Rattle.book.specs.Book.{noSheet, noStanding, limitIn, todayIn, lastIn, isNoDay, openedOf, view};
-ghost use Rattle.book.specs.Soundness.{eight, six, isMarkSound, areItemsSound, isWindowSound};
+ghost use Rattle.book.specs.Book.{noStanding, limitIn, todayIn, lastIn, isNoDay, openedOf, view};
+ghost use Rattle.book.specs.Soundness.{eight, six, areAllIn, areAllMissing, areLastSound, isMarkSound, areItemsSound, isWindowSound};
 use crate::Book;
 use crate::Limit;
 use crate::Standing;
-use grain::Calendar;
+use grain::DateFacts;
 use record::Day;
 use sheets::Sheet;
 use windows::Windows;
@@ -38,11 +36,11 @@ pub fn is_no_day(d: Day) -> bool
 pub fn is_true_day(d: Day) -> bool
     ensures { λ r. ⌜ r ≡ isTrueDay d ⌝ }
 {
-    let Calendar::On {
+    let DateFacts::On {
         month: _,
         season: _,
         remaining,
-    } = grain::calendar_of(d.year, d.month, d.day)
+    } = grain::date_facts(d.year, d.month, d.day)
     else {
         return false;
     };
@@ -50,11 +48,11 @@ pub fn is_true_day(d: Day) -> bool
 }
 
 // A date where a day is open.
-fn is_sound_date(d: Day, trading: bool) -> bool
-    ensures { λ r. ⌜ r ≡ isSoundCommon (record { opened = openedOf d; isOpen = trading }) ⌝ }
+fn is_sound_date(d: Day, is_open: bool) -> bool
+    ensures { λ r. ⌜ r ≡ isSoundCommon (record { opened = openedOf d; isOpen = «is_open» }) ⌝ }
 {
     if is_no_day(d) {
-        return !trading;
+        return !is_open;
     }
     is_true_day(d)
 }
@@ -141,7 +139,7 @@ fn are_marks_sound(standings: [Standing; 6]) -> bool
 }
 
 fn are_all_missing(sheets: [Sheet; 8]) -> bool
-    ensures { λ r. ⌜ r ≡ every (λ p. not (isSome (sheetIn (getD sheets p noSheet)))) eight ⌝ }
+    ensures { λ r. ⌜ r ≡ areAllMissing sheets ⌝ }
 {
     for p in 0..8usize {
         let s = sheets[p];
@@ -154,7 +152,7 @@ fn are_all_missing(sheets: [Sheet; 8]) -> bool
 
 // The eight sheets are there.
 pub fn are_all_in(sheets: [Sheet; 8]) -> bool
-    ensures { λ r. ⌜ r ≡ every (λ p. isSome (sheetIn (getD sheets p noSheet))) eight ⌝ }
+    ensures { λ r. ⌜ r ≡ areAllIn sheets ⌝ }
 {
     for p in 0..8usize {
         let s = sheets[p];
@@ -166,10 +164,10 @@ pub fn are_all_in(sheets: [Sheet; 8]) -> bool
 }
 
 // No sheet in while no day is open.
-fn is_phase_sound(trading: bool, today: [Sheet; 8]) -> bool
-    ensures { λ r. ⌜ r ≡ (trading || every (λ p. not (isSome (sheetIn (getD today p noSheet)))) eight) ⌝ }
+fn is_phase_sound(is_open: bool, today: [Sheet; 8]) -> bool
+    ensures { λ r. ⌜ r ≡ («is_open» || areAllMissing today) ⌝ }
 {
-    if trading {
+    if is_open {
         return true;
     }
     are_all_missing(today)
@@ -177,7 +175,7 @@ fn is_phase_sound(trading: bool, today: [Sheet; 8]) -> bool
 
 // The last ended sheets are all there, with a date, or none is.
 fn is_last_sound(d: Day, last: [Sheet; 8]) -> bool
-    ensures { λ r. ⌜ r ≡ ((isSome (openedOf d) and every (λ p. isSome (sheetIn (getD last p noSheet))) eight) || every (λ p. not (isSome (sheetIn (getD last p noSheet)))) eight) ⌝ }
+    ensures { λ r. ⌜ r ≡ areLastSound d last ⌝ }
 {
     if are_all_missing(last) {
         return true;
@@ -193,7 +191,7 @@ impl Book {
         ensures { λ r. ⌜ r ≡ isSound (view self) ⌝ }
     {
         let day = self.day;
-        if !is_sound_date(day, self.trading) {
+        if !is_sound_date(day, self.is_open) {
             return false;
         }
         let standings = self.standings;
@@ -208,7 +206,7 @@ impl Book {
             return false;
         }
         let today = self.today;
-        if !is_phase_sound(self.trading, today) {
+        if !is_phase_sound(self.is_open, today) {
             return false;
         }
         let last = self.last;

@@ -2,7 +2,7 @@
 use Prim.Native.Nat.{ℕ}
 use Rattle.record.specs.Record.{check, Answer, refused, checked}
 use Rattle.book.specs.declared.Book.{Book}
-use Rattle.book.specs.Calls.{Steps}
+use Rattle.book.specs.Calls.{Responds}
 use Rattle.checking.specs.declared.Checked.{Checked}
 use Rattle.checking.specs.declared.Checked.the-variants.{Is, Refused}
 
@@ -12,4 +12,4 @@ checkedAs (Refused n) = refused n
 
 -- a check returns no book: it is lent by value, and stays as it is
 abbrev pub Checks : Book → ℕ → ℕ → ℕ → ℕ → Checked → Type 0
-Checks b p size month price r = Steps b (check p size month price) (checkedAs r) b
+Checks b p size month price r = Responds b (check p size month price) (checkedAs r) b

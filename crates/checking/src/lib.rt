@@ -40,7 +40,7 @@ fn listed(b: Book, date: TradeDate, p: usize, month: u32) -> Listed
 
 // Past 1 and 2: the refusals 5, 14 and 8, and the answer.
 fn answer(b: Book, date: TradeDate, product: u32, size: u32, month: u32, price: u32) -> Checked
-    requires { ⌜ (isSound (view b) ≡ true) × (b .trading ≡ true) × (date ≡ tradeDate (b .day)) ⌝ }
+    requires { ⌜ (isSound (view b) ≡ true) × (b .«is_open» ≡ true) × (date ≡ tradeDate (b .day)) ⌝ }
     ensures { λ r. ⌜ Checks b product size month price r ⌝ }
 {
     let tick = grain::tick(product, size);
@@ -64,7 +64,7 @@ pub fn check(b: Book, product: u32, size: u32, month: u32, price: u32) -> Checke
     if !b.is_sound() {
         return Checked::Refused(UNSOUND);
     }
-    if !b.trading {
+    if !b.is_open {
         return Checked::Refused(WRONG_PHASE);
     }
     let day = b.day;

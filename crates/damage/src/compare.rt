@@ -102,7 +102,7 @@ pub fn same(whole: bool, a: Book, b: Book) -> bool {
         & same_standings(s, t)
         & same_windows(whole, v, w)
         & same_day(d, e)
-        & (a.trading == b.trading)
+        & (a.is_open == b.is_open)
         & same_sheets(whole, p, q)
         & same_sheets(whole, k, l)
 }

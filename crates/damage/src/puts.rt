@@ -106,7 +106,7 @@ fn with_day(b: Book, what: u8, x: u32) -> Book {
         b'o' => d.month = x,
         b'd' => d.day = x,
         b'l' => d.left = x,
-        _ => n.trading = x != 0,
+        _ => n.is_open = x != 0,
     }
     n.day = d;
     n

@@ -51,7 +51,7 @@ pub record Leaves (b z : Book) (es : List GroupEvent) : Type 0 where
   pub today : (p : ℕ) → p < 8 → sheetIn (todayIn z p) ≡ none
   pub last : z .last ≡ b .today
   pub day : z .day ≡ b .day
-  pub trading : z .trading ≡ false
+  pub isOpen : z .«is_open» ≡ false
 
 -- the moves and the event of a group as it is shown
 moves-are : (b : Book) (g : ℕ) (ps : List ℕ) → groupMoves (dayOf (viewCommon b)) (viewGroup b g ps) ≡ movesToday b ps
@@ -147,4 +147,4 @@ module _ (b z : Book) (es : List GroupEvent) (after : Leaves b z es) where
 
   pub end-view : view z ≡ next (view b) end
   unfolding viewCommon nextCommon nextGroup
-  end-view = next-view b z end (rw (after .day, after .trading)) group-shown
+  end-view = next-view b z end (rw (after .day, after .isOpen)) group-shown

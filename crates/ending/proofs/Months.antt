@@ -14,13 +14,13 @@ use Rattle.record.specs.Window.{newCropMonth}
 use Rattle.book.proofs.TradeDates.{true-date}
 use Rattle.ending.specs.Ends.{collectingAs, monthIn}
 
-pub record Dated (d : Day) (month : ℕ) : Type 0 where
+pub record Falls (d : Day) (month : ℕ) : Type 0 where
   pub falls : month + 1 ≡ d .year * 12 + d .month
   pub first : 2000 ≤ d .year
   pub last : d .year ≤ 2098
   pub lastMonth : d .month ≤ 12
 
-pub dated : (d : Day) (month : ℕ) → isTrueDay d ≡ true → month ≡ monthOf d → Dated d month
+pub dated : (d : Day) (month : ℕ) → isTrueDay d ≡ true → month ≡ monthOf d → Falls d month
 unfolding contractMonth
 dated d month t e =
     let v = valid-date (d .year) (d .month) (d .day) (true-date d t) in
@@ -28,7 +28,7 @@ dated d month t e =
     record { falls = omega arith; first = v .first; last = v .last; lastMonth = v .lastMonth }
 
 -- from January of the date's year
-module _ (d : Day) (month : ℕ) (is : Dated d month) where
+module _ (d : Day) (month : ℕ) (is : Falls d month) where
   pub next-july : month + 1 - d .month + 18 ≡ contractMonth (d .year + 1) 7
   unfolding contractMonth
   next-july = let falls = is .falls in omega arith

@@ -44,12 +44,12 @@ outstanding-is b =
 -- the tests after soundness
 pub end-tests : (b : Book)
     → first (tests (view b) end)
-    ≡ cond (not (b .trading)) (some wrongPhase) (cond (not (every (λ p. isSome (sheetIn (todayIn b p))) eight)) (some sheetOutstanding) none)
+    ≡ cond (not (b .«is_open»)) (some wrongPhase) (cond (not (every (λ p. isSome (sheetIn (todayIn b p))) eight)) (some sheetOutstanding) none)
 unfolding tests view viewCommon
 end-tests b =
-    ap (λ (x : Bool). cond (not (b .trading)) (some wrongPhase) (cond x (some sheetOutstanding) none)) (outstanding-is b)
+    ap (λ (x : Bool). cond (not (b .«is_open»)) (some wrongPhase) (cond x (some sheetOutstanding) none)) (outstanding-is b)
 
 -- a day is open where none of them refuses
-pub accepted-open : (b : Book) → first (tests (view b) end) ≡ none → b .trading ≡ true
+pub accepted-open : (b : Book) → first (tests (view b) end) ≡ none → b .«is_open» ≡ true
 unfolding tests view viewCommon
-accepted-open b e = not-false (b .trading) (cleared (tests (view b) end) e .0)
+accepted-open b e = not-false (b .«is_open») (cleared (tests (view b) end) e .0)

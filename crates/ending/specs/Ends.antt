@@ -22,7 +22,7 @@ use Rattle.book.specs.declared.Limit.{Limit}
 use Rattle.book.specs.declared.Standing.{Standing}
 use Rattle.book.specs.declared.Book.{Book}
 use Rattle.book.specs.Book.{noLimit, standingIn, todayIn, levelOf, view}
-use Rattle.book.specs.Calls.{Steps, answerAs}
+use Rattle.book.specs.Calls.{Responds, answerAs}
 use Rattle.lead.specs.Lead.{movesOf}
 use Rattle.record.specs.declared.GroupEvent.{GroupEvent}
 use Rattle.ending.specs.declared.Ended.{Ended}
@@ -43,7 +43,7 @@ abbrev pub refusedBy : Book → ℕ → Ended
 refusedBy b n = record { refusal = n; events = replicate 6 quiet; book = b }
 
 pub record Ends (b : Book) (r : Ended) : Type 0 where
-  pub steps : Steps b end (endedAs r) (r .book)
+  pub responds : Responds b end (endedAs r) (r .book)
   -- a refused end says quiet for all six
   pub silent : (n : ℕ) → refusal (view b) end ≡ some n → r .events ≡ replicate 6 quiet
 

@@ -81,7 +81,7 @@ fn accepted(b: Book, date: TradeDate) -> Ended
     let none = Sheet::none();
     let empty = [none; 8];
     next.today = empty;
-    next.trading = false;
+    next.is_open = false;
     Ended {
         refusal: 0,
         events,

@@ -15,7 +15,7 @@ pub(crate) fn refusal_of(b: Book) -> u32
     if !b.is_sound() {
         return UNSOUND;
     }
-    if !b.trading {
+    if !b.is_open {
         return WRONG_PHASE;
     }
     let today = b.today;

@@ -12,7 +12,7 @@ use Rattle.record.specs.declared.Day.{Day}
 use Rattle.record.specs.declared.Contract.{Contract}
 use Rattle.record.specs.Choices.{orElse}
 use Rattle.record.specs.Refusals.{when, first, badMonth, contractAbsent, beyondLimit}
-use Rattle.record.specs.State.{Product, dayOf, monthOf, tradeDate, isSpotOn, groupOf, groupAt, productIn, limitIn, sheetOr}
+use Rattle.record.specs.State.{Product, dayOf, monthOf, tradeDate, isSpotOn, groupOf, groupAt, productIn, todaysLimit, sheetOr}
 use Rattle.record.specs.Sheet.{hasBadMonth, hasBadSettlement, lacksContract, isBeyond}
 use Rattle.sheets.specs.Sheets.{entriesOf, monthsOf, settlementsOf}
 use Rattle.sheets.proofs.Rest.{counted}
@@ -32,7 +32,7 @@ by month settlement absent beyond =
 abbrev byDay : Book → ℕ → List Contract → Day → List Contract → ℕ
 byDay b p s d last =
     by (hasBadMonth (monthOf d) p (monthsOf s)) (hasBadSettlement p (settlementsOf s)) (lacksContract (isSpotOn d) last s)
-    (isBeyond (isSpotOn d) (limitIn (groupAt (view b) (groupOf p)) p) last s)
+    (isBeyond (isSpotOn d) (todaysLimit (groupAt (view b) (groupOf p)) p) last s)
 
 last-is : (b : Book) (p : ℕ) → p < 8 → lastIn b p .len ≤ 16
     → sheetOr (productIn (groupAt (view b) (groupOf p)) p .last) ≡ entriesOf (lastIn b p)
@@ -42,7 +42,7 @@ last-is b p l fits =
 
 module _ (b : Book) (p : ℕ) (s : List Contract) where
   abbrev limit : ℕ
-  limit = limitIn (groupAt (view b) (groupOf p)) p
+  limit = todaysLimit (groupAt (view b) (groupOf p)) p
 
   abbrev number : ℕ
   number = orElse (first (contractTests (view b) p s)) 0

@@ -15,7 +15,7 @@ use Rattle.record.specs.Sound.{isSound}
 use Rattle.book.specs.declared.Book.{Book}
 use Rattle.book.specs.Book.{todayIn, viewProduct, view}
 use Rattle.book.proofs.SheetsIn.{sheet-is-in}
-use Rattle.book.proofs.Views.{product-is, trading-is}
+use Rattle.book.proofs.Views.{product-is, open-is}
 use Rattle.filing.specs.Files.{earlyTests}
 
 -- a product's sheet is in where its count is not 0
@@ -47,18 +47,18 @@ module _ (b : Book) (p : ℕ) (ms ss : List ℕ) where
   refused-1 e = rw e
 
   module _ (sound : isSound (view b) ≡ true) where
-    pub refused-2 : b .trading ≡ false → wrongPhase ≡ number
-    refused-2 e = rw (sound, trading-is b, e)
+    pub refused-2 : b .«is_open» ≡ false → wrongPhase ≡ number
+    refused-2 e = rw (sound, open-is b, e)
 
-    module _ (trading : b .trading ≡ true) where
+    module _ (isOpen : b .«is_open» ≡ true) where
       pub refused-5 : isProduct p ≡ false → noSuchProduct ≡ number
-      refused-5 e = rw (sound, trading-is b, trading, e)
+      refused-5 e = rw (sound, open-is b, isOpen, e)
 
       module _ (product : isProduct p ≡ true) where
         past : number ≡ by true true true (not (eqb (todayIn b p .len) 0)) (isMisshapen ms ss)
         past =
             ap (λ x. by x (view b .common .isOpen) (isProduct p) sheetIsIn (isMisshapen ms ss)) sound
-            ∙ ap (λ x. by true x (isProduct p) sheetIsIn (isMisshapen ms ss)) (trading-is b ∙ trading)
+            ∙ ap (λ x. by true x (isProduct p) sheetIsIn (isMisshapen ms ss)) (open-is b ∙ isOpen)
             ∙ ap (λ x. by true true x sheetIsIn (isMisshapen ms ss)) product
             ∙ ap (λ x. by true true true x (isMisshapen ms ss)) (today-is b p (ltb-true p 8 product))
 

@@ -15,7 +15,7 @@ use Rattle.grain.proofs.Tests.{neither}
 use Rattle.record.specs.declared.Contract.{Contract}
 use Rattle.record.specs.Choices.{orElse}
 use Rattle.record.specs.Refusals.{Test, when, first, badMonth, contractAbsent, beyondLimit}
-use Rattle.record.specs.State.{Record, dayOf, monthOf, isSpotOn, groupOf, groupAt, productIn, limitIn, sheetOr}
+use Rattle.record.specs.State.{Record, dayOf, monthOf, isSpotOn, groupOf, groupAt, productIn, todaysLimit, sheetOr}
 use Rattle.record.specs.Sheet.{contracts, isMisshapen, hasBadMonth, hasBadSettlement, lacksContract, isBeyond, sheetTests, fileProduct, fileGroup}
 use Rattle.record.specs.Sound.{isSound}
 use Rattle.record.specs.Record.{sheet, tests, refusal, next, nextCommon, nextGroup}
@@ -27,7 +27,7 @@ use Rattle.sheets.proofs.Fills.{contracts-length}
 use Rattle.book.specs.declared.Book.{Book}
 use Rattle.book.specs.Book.{noSheet, todayIn, viewProduct, viewGroup, viewCommon, view}
 use Rattle.book.proofs.Numbered.{none-by}
-use Rattle.book.proofs.Views.{trading-is, group-view, next-view}
+use Rattle.book.proofs.Views.{open-is, group-view, next-view}
 use Rattle.filing.specs.Files.{earlyTests, contractTests}
 
 -- ---- the two arrays
@@ -91,7 +91,7 @@ module _ (r : Record) (p : ℕ) (ms ss : List ℕ) where
       when (hasBadMonth (monthOf d) p ms) badMonth
       ∷ when (hasBadSettlement p ss) badPrice
       ∷ when (lacksContract (isSpotOn d) (sheetOr (productIn g p .last)) (contracts ms ss)) contractAbsent
-      ∷ when (isBeyond (isSpotOn d) (limitIn g p) (sheetOr (productIn g p .last)) (contracts ms ss)) beyondLimit
+      ∷ when (isBeyond (isSpotOn d) (todaysLimit g p) (sheetOr (productIn g p .last)) (contracts ms ss)) beyondLimit
       ∷ []
 
   refusal-is : refusal r (sheet p ms ss) ≡ orLater (first (earlyTests r p ms ss)) (first later)
@@ -112,7 +112,7 @@ module _ (r : Record) (p : ℕ) (ms ss : List ℕ) where
 -- what the early tests say where none applies
 pub record Early (b : Book) (p : ℕ) (ms ss : List ℕ) : Type 0 where
   pub sound : isSound (view b) ≡ true
-  pub trading : b .trading ≡ true
+  pub isOpen : b .«is_open» ≡ true
   pub product : p < 8
   pub arrays : Shape ms ss
 
@@ -126,7 +126,7 @@ early-facts b p ms ss e =
     let c = cleared (earlyTests (view b) p ms ss) e in
     record {
       sound = not-false _ (c .0);
-      trading = sym (trading-is b) ∙ not-false _ (c .1 .0);
+      isOpen = sym (open-is b) ∙ not-false _ (c .1 .0);
       product = ltb-true p 8 (not-false _ (c .1 .1 .0));
       arrays = shape ms ss (c .1 .1 .1 .1 .0);
     }
@@ -141,7 +141,7 @@ filedBook b p s =
       today = set (b .today) p s;
       last = b .last;
       day = b .day;
-      trading = b .trading;
+      «is_open» = b .«is_open»;
     }
 
 pub sheet-in : (s : Sheet) (cs : List Contract) → (s .len ≡ 0 → ⊥) → s .len ≤ 16 → entriesOf s ≡ cs → sheetIn s ≡ some cs

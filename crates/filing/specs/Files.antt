@@ -7,20 +7,20 @@ use Rattle.grain.specs.Refusals.{noSuchProduct, misshapen, badPrice}
 use Rattle.record.specs.declared.Contract.{Contract}
 use Rattle.record.specs.Choices.{isSome}
 use Rattle.record.specs.Refusals.{Test, when, unsound, wrongPhase, alreadyIn, badMonth, contractAbsent, beyondLimit}
-use Rattle.record.specs.State.{Record, dayOf, monthOf, isSpotOn, groupOf, groupAt, productIn, limitIn, sheetOr}
+use Rattle.record.specs.State.{Record, dayOf, monthOf, isSpotOn, groupOf, groupAt, productIn, todaysLimit, sheetOr}
 use Rattle.record.specs.Sheet.{isMisshapen, hasBadMonth, hasBadSettlement, lacksContract, isBeyond}
 use Rattle.record.specs.Sound.{isSound}
 use Rattle.record.specs.Record.{sheet, Answer, filed}
 use Rattle.sheets.specs.Sheets.{monthsOf, settlementsOf}
 use Rattle.book.specs.declared.Book.{Book}
-use Rattle.book.specs.Calls.{Steps, answerAs}
+use Rattle.book.specs.Calls.{Responds, answerAs}
 use Rattle.filing.specs.declared.Filed.{Filed}
 
 abbrev pub filedAs : Filed → Answer
 filedAs r = answerAs (r .refusal) filed
 
 abbrev pub Files : Book → ℕ → List ℕ → List ℕ → Filed → Type 0
-Files b p ms ss r = Steps b (sheet p ms ss) (filedAs r) (r .book)
+Files b p ms ss r = Responds b (sheet p ms ss) (filedAs r) (r .book)
 
 -- For the functions inside: the Record's tests in two parts, which proofs/Filings.antt holds against them.
 -- the refusals before the contracts are looked at: 1, 2, 5, 11, 6
@@ -41,5 +41,5 @@ contractTests r p s =
     when (hasBadMonth (monthOf d) p (monthsOf s)) badMonth
     ∷ when (hasBadSettlement p (settlementsOf s)) badPrice
     ∷ when (lacksContract (isSpotOn d) (sheetOr (productIn g p .last)) s) contractAbsent
-    ∷ when (isBeyond (isSpotOn d) (limitIn g p) (sheetOr (productIn g p .last)) s) beyondLimit
+    ∷ when (isBeyond (isSpotOn d) (todaysLimit g p) (sheetOr (productIn g p .last)) s) beyondLimit
     ∷ []

@@ -30,7 +30,7 @@ pub(crate) fn early_refusal(b: Book, product: u32, months: &[u32], settlements: 
     if !b.is_sound() {
         return UNSOUND;
     }
-    if !b.trading {
+    if !b.is_open {
         return WRONG_PHASE;
     }
     if !grain::is_product(product) {

@@ -3,7 +3,7 @@ use Prim.Native.Nat.{ℕ}
 use lib.Dec.{eqb}
 use Rattle.grain.specs.Bare.{bareCheck}
 use Rattle.tally.specs.Tally.{tallyFull}
-use Rattle.tally.specs.Through.{Checks, ThroughOneTally}
+use Rattle.tally.specs.Through.{TalliedCall, ThroughOneTally}
 use Rattle.gateway.specs.Tallied.{kindOfNumber, TalliesBare}
 
 pub record Order : Type 0 where
@@ -15,7 +15,7 @@ pub record Order : Type 0 where
   pub price : ℕ
 
 -- the answers are numbers; no bare check answers 1 or 15
-abbrev pub bareChecks : Checks
+abbrev pub bareChecks : TalliedCall
 bareChecks =
     record {
       Ask = Order;

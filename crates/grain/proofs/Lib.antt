@@ -1,7 +1,7 @@
 pub mod Ascending
 pub mod BareAnswers
 pub mod Below
-pub mod Calendars
+pub mod FactsOfDates
 pub mod Columns
 pub mod Every
 pub mod Fits

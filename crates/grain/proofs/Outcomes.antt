@@ -3,15 +3,15 @@ use mathlib.Core.Path.{_≡_, refl, sym, _∙_, ap}
 use mathlib.Core.Bool.{cond}
 use mathlib.Core.List.{[], _∷_}
 use lib.Dec.{eqb}
-use Rattle.grain.specs.Margin.{Outcome, refused, gives, expandedLimitAs, seasonLimitsAs, calendarAs}
+use Rattle.grain.specs.Margin.{Outcome, refused, gives, expandedLimitAs, seasonLimitsAs, dateFactsAs}
 use Rattle.grain.specs.declared.margin.ExpandedLimit.{ExpandedLimit}
 use Rattle.grain.specs.declared.margin.ExpandedLimit.the-variants.{Is, UnfitAmount}
 use Rattle.grain.specs.declared.margin.ExpandedLimit.the-variants as E
 use Rattle.grain.specs.declared.margin.SeasonLimits.{SeasonLimits}
 use Rattle.grain.specs.declared.margin.SeasonLimits.the-variants.{Are, NotFortyFive, BadSettlement}
 use Rattle.grain.specs.declared.margin.SeasonLimits.the-variants as S
-use Rattle.grain.specs.declared.margin.Calendar.{Calendar}
-use Rattle.grain.specs.declared.margin.Calendar.the-variants.{On, NoSuchDate}
+use Rattle.grain.specs.declared.margin.DateFacts.{DateFacts}
+use Rattle.grain.specs.declared.margin.DateFacts.the-variants.{On, NoSuchDate}
 
 -- the answer that says this, or any
 abbrev expandedLimitFrom : Outcome → ExpandedLimit
@@ -42,16 +42,16 @@ season-limits-same r s e = sym (back r) ∙ ap seasonLimitsFrom e ∙ back s
     back NotFortyFive = refl
     back BadSettlement = refl
 
-abbrev calendarFrom : Outcome → Calendar
-calendarFrom (refused n) = NoSuchDate
-calendarFrom (gives (m ∷ s ∷ d ∷ values)) = On m s d
-calendarFrom (gives (m ∷ s ∷ [])) = NoSuchDate
-calendarFrom (gives (m ∷ [])) = NoSuchDate
-calendarFrom (gives []) = NoSuchDate
+abbrev dateFactsFrom : Outcome → DateFacts
+dateFactsFrom (refused n) = NoSuchDate
+dateFactsFrom (gives (m ∷ s ∷ d ∷ values)) = On m s d
+dateFactsFrom (gives (m ∷ s ∷ [])) = NoSuchDate
+dateFactsFrom (gives (m ∷ [])) = NoSuchDate
+dateFactsFrom (gives []) = NoSuchDate
 
-pub calendar-same : (r s : Calendar) → calendarAs r ≡ calendarAs s → r ≡ s
-calendar-same r s e = sym (back r) ∙ ap calendarFrom e ∙ back s
+pub date-facts-same : (r s : DateFacts) → dateFactsAs r ≡ dateFactsAs s → r ≡ s
+date-facts-same r s e = sym (back r) ∙ ap dateFactsFrom e ∙ back s
   where
-    back : (r : Calendar) → calendarFrom (calendarAs r) ≡ r
+    back : (r : DateFacts) → dateFactsFrom (dateFactsAs r) ≡ r
     back (On m s d) = refl
     back NoSuchDate = refl

@@ -16,8 +16,8 @@ use Rattle.grain.specs.declared.margin.ExpandedLimit.the-variants as E
 use Rattle.grain.specs.declared.margin.SeasonLimits.{SeasonLimits}
 use Rattle.grain.specs.declared.margin.SeasonLimits.the-variants.{Are, NotFortyFive, BadSettlement}
 use Rattle.grain.specs.declared.margin.SeasonLimits.the-variants as S
-use Rattle.grain.specs.declared.margin.Calendar.{Calendar}
-use Rattle.grain.specs.declared.margin.Calendar.the-variants.{On, NoSuchDate}
+use Rattle.grain.specs.declared.margin.DateFacts.{DateFacts}
+use Rattle.grain.specs.declared.margin.DateFacts.the-variants.{On, NoSuchDate}
 
 -- what the rule says to a question: a refusal's number, or the values asked for
 pub data Outcome : Type 0 where
@@ -56,11 +56,11 @@ seasonLimits p settlements =
     (gives (seasonOf p settlements ∷ expandedOf p (seasonOf p settlements) ∷ []))))
 
 -- ---- a date's contract month, its season's number, and the days remaining in its month
-abbrev pub calendarAs : Calendar → Outcome
-calendarAs (On month season remaining) = gives (month ∷ season ∷ remaining ∷ [])
-calendarAs NoSuchDate = refused noSuchDate
+abbrev pub dateFactsAs : DateFacts → Outcome
+dateFactsAs (On month season remaining) = gives (month ∷ season ∷ remaining ∷ [])
+dateFactsAs NoSuchDate = refused noSuchDate
 
-unfoldable pub calendarOf : ℕ → ℕ → ℕ → Outcome
-calendarOf year month day =
+unfoldable pub dateFacts : ℕ → ℕ → ℕ → Outcome
+dateFacts year month day =
     cond (not (isDate year month day)) (refused noSuchDate)
     (gives (contractMonth year month ∷ seasonNumber (contractMonth year month) ∷ daysRemaining year month day ∷ []))

@@ -29,8 +29,8 @@ pub fn expanded(product: u32, initial: u32) -> u32
     rounded as u32
 }
 
-// The season limit of a sum of 45 settlements. `pub` for margin.rt, not exported: it asks for a product below 8.
-pub fn season_initial(product: u32, sum: u32) -> u32
+// The season limit of a sum of 45 settlements.
+pub(crate) fn season_initial(product: u32, sum: u32) -> u32
     requires { ⌜ product < 8 ⌝ }
     ensures { λ r. ⌜ r ≡ seasonBy (stepOf product) (floorOf product) sum ⌝ }
 {

@@ -3,7 +3,7 @@ ghost use mathlib.Core.Path.{_≡_};
 ghost use Prim.Native.Nat.{_<_, _^_};
 ghost use Rattle.grain.specs.Lists.{every, sum};
 ghost use Rattle.grain.specs.Prices.{isSettlement};
-ghost use Rattle.grain.specs.Margin.{refusalIn, expandedLimitAs, expandedLimit, seasonLimitsAs, seasonLimits, calendarAs, calendarOf};
+ghost use Rattle.grain.specs.Margin.{refusalIn, expandedLimitAs, expandedLimit, seasonLimitsAs, seasonLimits, dateFactsAs, dateFacts};
 use crate::amounts::expanded;
 use crate::amounts::is_fit_amount;
 use crate::amounts::season_initial;
@@ -58,7 +58,7 @@ impl SeasonLimits {
     }
 }
 
-pub enum Calendar {
+pub enum DateFacts {
     // The date's contract month, its season's number, and the calendar days of its month after it.
     On {
         month: u32,
@@ -68,17 +68,17 @@ pub enum Calendar {
     NoSuchDate,
 }
 
-impl Calendar {
+impl DateFacts {
     pub fn refusal(self) -> u32
-        ensures { λ r. ⌜ r ≡ refusalIn (calendarAs self) ⌝ }
+        ensures { λ r. ⌜ r ≡ refusalIn (dateFactsAs self) ⌝ }
     {
         match self {
-            Calendar::On {
+            DateFacts::On {
                 month: _,
                 season: _,
                 remaining: _,
             } => 0,
-            Calendar::NoSuchDate => NO_SUCH_DATE,
+            DateFacts::NoSuchDate => NO_SUCH_DATE,
         }
     }
 }
@@ -143,14 +143,14 @@ pub fn season_limits(product: u32, settlements: &[u32]) -> SeasonLimits
 }
 
 // A date's contract month and season.
-pub fn calendar_of(year: u32, month: u32, day: u32) -> Calendar
-    ensures { λ r. ⌜ calendarAs r ≡ calendarOf year month day ⌝ }
+pub fn date_facts(year: u32, month: u32, day: u32) -> DateFacts
+    ensures { λ r. ⌜ dateFactsAs r ≡ dateFacts year month day ⌝ }
 {
     if !is_date(year, month, day) {
-        return Calendar::NoSuchDate;
+        return DateFacts::NoSuchDate;
     }
     let at = year * 12 + month - 1;
-    Calendar::On {
+    DateFacts::On {
         month: at,
         season: (at - 4) / 6,
         remaining: month_length(year, month) - day,

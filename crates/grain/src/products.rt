@@ -1,5 +1,4 @@
 // The product table. Each column is a constant array that one function reads; no other function touches it.
-// `step` and `floor` are `pub` for amounts.rt, not exported: they ask for a product below 8.
 ghost use mathlib.Core.Path.{_≡_};
 ghost use Prim.Native.Nat.{_<_};
 ghost use Rattle.grain.specs.Products.{isProduct, stepOf, floorOf, firstOf, tickOf, isTraded};
@@ -31,14 +30,14 @@ pub fn is_product(product: u32) -> bool
     product < 8
 }
 
-pub fn step(product: u32) -> u32
+pub(crate) fn step(product: u32) -> u32
     requires { ⌜ product < 8 ⌝ }
     ensures { λ r. ⌜ r ≡ stepOf product ⌝ }
 {
     STEPS[product as usize] as u32
 }
 
-pub fn floor(product: u32) -> u32
+pub(crate) fn floor(product: u32) -> u32
     requires { ⌜ product < 8 ⌝ }
     ensures { λ r. ⌜ r ≡ floorOf product ⌝ }
 {

@@ -11,7 +11,7 @@ use Rattle.grain.specs.declared.check.Verdict.the-variants.{Free}
 use Rattle.record.specs.Refusals.{unsound}
 use Rattle.record.specs.State.{Product, Group, Record, groupOf, groupAt}
 use Rattle.record.specs.Founding.{Start, isFitStart, founded}
-use Rattle.record.specs.Record.{Call, check, Answer, refused, opened, filed, ended, checked, step, stateAfter, answers}
+use Rattle.record.specs.Record.{Call, check, Answer, refused, opened, filed, ended, checked, respond, stateAfter, answers}
 use Rattle.record.specs.History.{kept, SameFor}
 use Rattle.record.specs.Theorems.{after, historyOf, isRefusal, BetweenLimits, isWithin, checkAfter}
 use Rattle.record.proofs.Proved.{theorems}
@@ -65,7 +65,7 @@ module _ (s : Start) (cs : List Call) (rs : List Answer) (z : Book) (run : Run s
   answers-are = follows (run .trace) .answered ∙ ap (λ (r : Record). answers r cs) fresh-is
 
   contents-are : view z ≡ after s cs
-  contents-are = follows (run .trace) .left ∙ ap (λ (r : Record). stateAfter r cs) fresh-is
+  contents-are = follows (run .trace) .contents ∙ ap (λ (r : Record). stateAfter r cs) fresh-is
 
   history-is : kept cs rs ≡ historyOf s cs
   history-is = ap (kept cs) answers-are
@@ -77,7 +77,7 @@ module _ (s : Start) (cs : List Call) (rs : List Answer) (z : Book) (run : Run s
 checked-after : (s : Start) (cs : List Call) (rs : List Answer) (z : Book) → Run s cs rs z → (p size month price : ℕ) (v : Checked)
     → Checks z p size month price v → checkedAs v ≡ checkAfter s cs p size month price
 checked-after s cs rs z run p size month price v k =
-    k .answer ∙ ap (λ (r : Record). step r (check p size month price) .answer) (contents-are s cs rs z run)
+    k .answer ∙ ap (λ (r : Record). respond r (check p size month price) .answer) (contents-are s cs rs z run)
 
 coupled : (s : Start) (cs : List Call) (rs : List Answer) (z : Book) → Run s cs rs z
     → (p q i j m n x y : ℕ) (v w : Verdict) → groupOf p ≡ groupOf q
@@ -131,7 +131,7 @@ pub whole-history : WholeHistory
 whole-history =
     record {
       answered = answers-are;
-      left = contents-are;
+      contents = contents-are;
       compared = λ s cs rs z run. same-contents z (after s cs) (contents-are s cs rs z run);
       neverUnsound = never-unsound;
       oneLevel = λ s cs rs z run. rw (contents-are s cs rs z run) (theorems .oneLevel s cs);

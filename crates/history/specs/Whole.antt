@@ -41,7 +41,7 @@ pub record SameProduct (z : Book) (r : Record) (p : ℕ) : Type 0 where
 
 -- all that is compared: whether a day is open, the last opened date with its left, and each product's contents
 pub record SameContents (z : Book) (r : Record) : Type 0 where
-  pub isOpen : z .trading ≡ r .common .isOpen
+  pub isOpen : z .«is_open» ≡ r .common .isOpen
   pub opened : openedOf (z .day) ≡ r .common .opened
   pub products : (p : ℕ) → p < 8 → SameProduct z r p
 
@@ -49,7 +49,7 @@ pub record WholeHistory : Type 0 where
   -- every answer and refusal number is the Record's, from the founding limits and the calls' arguments alone
   pub answered : (s : Start) (cs : List Call) (rs : List Answer) (z : Book) → Run s cs rs z → rs ≡ answers (founded s) cs
   -- and what the book holds after the list is what the Record holds, as a whole and part by part
-  pub left : (s : Start) (cs : List Call) (rs : List Answer) (z : Book) → Run s cs rs z → view z ≡ after s cs
+  pub contents : (s : Start) (cs : List Call) (rs : List Answer) (z : Book) → Run s cs rs z → view z ≡ after s cs
   pub compared : (s : Start) (cs : List Call) (rs : List Answer) (z : Book) → Run s cs rs z → SameContents z (after s cs)
   -- no call of a list answers 1
   pub neverUnsound :

@@ -18,7 +18,7 @@ use Rattle.book.proofs.Numbered.{sound-refusal, accepted-sound}
 pub sound-opening : (b : Book) (d : Day) → isSound (view b) ≡ true
     → refusal (view b) (opening d)
     ≡ first
-    (when (b .trading) wrongPhase
+    (when (b .«is_open») wrongPhase
     ∷ when (not (isTrueDay d)) noSuchDate
     ∷ when (isNotLater (openedOf (b .day)) d) notLater
     ∷ [])

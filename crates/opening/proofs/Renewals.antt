@@ -25,7 +25,7 @@ pub record OpenedOn (b : Book) (d : Day) (z : Book) : Type 0 where
   pub today : z .today ≡ b .today
   pub last : z .last ≡ b .last
   pub day : z .day ≡ d
-  pub trading : z .trading ≡ true
+  pub isOpen : z .«is_open» ≡ true
 
 module _ (b : Book) (d : Day) (z : Book) (on : OpenedOn b d z) where
   product-opened : (p : ℕ) → p < 8 → viewProduct z p ≡ openProduct (viewCommon b) d (viewProduct b p)
@@ -44,7 +44,7 @@ module _ (b : Book) (d : Day) (z : Book) (on : OpenedOn b d z) where
 
   common-opened : isTrueDay d ≡ true → viewCommon z ≡ nextCommon (viewCommon b) (opening d)
   unfolding viewCommon nextCommon
-  common-opened t = rw (on .day, on .trading, opened-is d t)
+  common-opened t = rw (on .day, on .isOpen, opened-is d t)
 
   pub opened-view : isTrueDay d ≡ true → view z ≡ next (view b) (opening d)
   opened-view t = next-view b z (opening d) (common-opened t) group-opened

@@ -13,7 +13,7 @@ use Rattle.record.specs.Record.{opening, Answer, opened, refusal}
 use Rattle.book.specs.declared.Limit.{Limit}
 use Rattle.book.specs.declared.Book.{Book}
 use Rattle.book.specs.Book.{isNoDay, view}
-use Rattle.book.specs.Calls.{Steps, answerAs}
+use Rattle.book.specs.Calls.{Responds, answerAs}
 use Rattle.opening.specs.declared.Opened.{Opened}
 
 abbrev pub dated : ℕ → ℕ → ℕ → ℕ → Day
@@ -23,7 +23,7 @@ abbrev pub openedAs : Opened → Answer
 openedAs r = answerAs (r .refusal) (opened (r .renewed))
 
 pub record Opens (b : Book) (d : Day) (r : Opened) : Type 0 where
-  pub steps : Steps b (opening d) (openedAs r) (r .book)
+  pub responds : Responds b (opening d) (openedAs r) (r .book)
   -- a refused opening says no for all eight
   pub silent : (n : ℕ) → refusal (view b) (opening d) ≡ some n → r .renewed ≡ replicate 8 false
 
@@ -33,10 +33,10 @@ NoneOrTrue d = isNoDay d ≡ false → isTrueDay d ≡ true
 
 -- one season later, with a full window
 abbrev pub isRenewedBy : Bool → List ℕ → Bool
-isRenewedBy next window = next && eqb (length window) 45
+isRenewedBy renews window = renews && eqb (length window) 45
 
 abbrev pub limitOn : Bool → List ℕ → ℕ → Limit → Limit
-limitOn next window p limit =
-    cond (isRenewedBy next window)
+limitOn renews window p limit =
+    cond (isRenewedBy renews window)
     (record { initial = seasonOf p window; expanded = expandedOf p (seasonOf p window) })
     limit

@@ -56,17 +56,17 @@ fn accepted(b: Book, d: Day) -> Opened
 {
     let last = b.day;
     let w = b.windows;
-    let next = is_next_season(last, d);
-    let mut n = b;
-    let limits = limits_on(next, b);
-    n.limits = limits;
-    n.windows = windows_on(is_other_season(last, d), w);
-    n.day = d;
-    n.trading = true;
-    let renewed = renewed_on(next, w);
+    let renews = is_next_season(last, d);
+    let mut next = b;
+    let limits = limits_on(renews, b);
+    next.limits = limits;
+    next.windows = windows_on(is_other_season(last, d), w);
+    next.day = d;
+    next.is_open = true;
+    let renewed = renewed_on(renews, w);
     Opened {
         refusal: 0,
         renewed,
-        book: n,
+        book: next,
     }
 }

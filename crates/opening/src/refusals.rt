@@ -38,7 +38,7 @@ pub(crate) fn refusal_of(b: Book, d: Day) -> u32
     if !b.is_sound() {
         return UNSOUND;
     }
-    if b.trading {
+    if b.is_open {
         return WRONG_PHASE;
     }
     if !book::is_true_day(d) {

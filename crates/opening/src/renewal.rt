@@ -1,4 +1,4 @@
-// New limits and emptied windows at an opening. `next` says that it is exactly one season later.
+// New limits and emptied windows at an opening. `renews` says that it is exactly one season later.
 ghost use mathlib.Core.Path.{_≡_};
 ghost use mathlib.Core.Bool.{true, cond};
 ghost use mathlib.Core.List.{[], map};
@@ -15,31 +15,31 @@ use book::Limit;
 use grain::SeasonLimits;
 use windows::Windows;
 
-fn is_renewed(next: bool, w: Windows, p: usize) -> bool
-    ensures { λ r. ⌜ r ≡ isRenewedBy next (windowOf w p) ⌝ }
+fn is_renewed(renews: bool, w: Windows, p: usize) -> bool
+    ensures { λ r. ⌜ r ≡ isRenewedBy renews (windowOf w p) ⌝ }
 {
-    if !next {
+    if !renews {
         return false;
     }
     w.is_full(p)
 }
 
 // For each product, whether it gets its season limits.
-pub(crate) fn renewed_on(next: bool, w: Windows) -> [bool; 8]
-    ensures { λ r. ⌜ r ≡ map (λ p. isRenewedBy next (windowOf w p)) eight ⌝ }
+pub(crate) fn renewed_on(renews: bool, w: Windows) -> [bool; 8]
+    ensures { λ r. ⌜ r ≡ map (λ p. isRenewedBy renews (windowOf w p)) eight ⌝ }
 {
     let mut renewed = [false; 8];
     for p in 0..8usize {
-        renewed[p] = is_renewed(next, w, p);
+        renewed[p] = is_renewed(renews, w, p);
     }
     renewed
 }
 
-fn limit_on(next: bool, w: Windows, p: usize, limit: Limit) -> Limit
+fn limit_on(renews: bool, w: Windows, p: usize, limit: Limit) -> Limit
     requires { ⌜ (p < 8) × (every (isSettlement p) (windowOf w p) ≡ true) ⌝ }
-    ensures { λ r. ⌜ r ≡ limitOn next (windowOf w p) p limit ⌝ }
+    ensures { λ r. ⌜ r ≡ limitOn renews (windowOf w p) p limit ⌝ }
 {
-    if !is_renewed(next, w, p) {
+    if !is_renewed(renews, w, p) {
         return limit;
     }
     let SeasonLimits::Are { initial, expanded } = w.season_limits(p) else {
@@ -48,15 +48,15 @@ fn limit_on(next: bool, w: Windows, p: usize, limit: Limit) -> Limit
     Limit { initial, expanded }
 }
 
-pub(crate) fn limits_on(next: bool, b: Book) -> [Limit; 8]
+pub(crate) fn limits_on(renews: bool, b: Book) -> [Limit; 8]
     requires { ⌜ ((p : ℕ) → p < 8 → every (isSettlement p) (windowOf (b .windows) p) ≡ true) ⌝ }
-    ensures { λ r. ⌜ ((p : ℕ) → p < 8 → getD r p noLimit ≡ limitOn next (windowOf (b .windows) p) p (limitIn b p)) ⌝ }
+    ensures { λ r. ⌜ ((p : ℕ) → p < 8 → getD r p noLimit ≡ limitOn renews (windowOf (b .windows) p) p (limitIn b p)) ⌝ }
 {
     let w = b.windows;
     let mut limits = b.limits;
     for p in 0..8usize {
         let limit = limits[p];
-        limits[p] = limit_on(next, w, p, limit);
+        limits[p] = limit_on(renews, w, p, limit);
     }
     limits
 }

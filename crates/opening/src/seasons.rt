@@ -4,7 +4,7 @@ ghost use mathlib.Core.Bool.{true};
 ghost use Rattle.record.specs.Opening.{isTrueDay, seasonOn, isNextSeason, isOtherSeason};
 ghost use Rattle.book.specs.Book.{openedOf};
 ghost use Rattle.opening.specs.Opens.{NoneOrTrue};
-use grain::Calendar;
+use grain::DateFacts;
 use record::Day;
 
 // The season's number of a true day.
@@ -12,11 +12,11 @@ fn season_of(d: Day) -> u32
     requires { ⌜ isTrueDay d ≡ true ⌝ }
     ensures { λ r. ⌜ r ≡ seasonOn d ⌝ }
 {
-    let Calendar::On {
+    let DateFacts::On {
         month: _,
         season,
         remaining: _,
-    } = grain::calendar_of(d.year, d.month, d.day)
+    } = grain::date_facts(d.year, d.month, d.day)
     else {
         return 0;
     };

@@ -12,7 +12,7 @@ use Rattle.grain.specs.declared.check.Verdict.the-variants.{Below, Above}
 use Rattle.record.specs.State.{Level, initial, expanded, Record, groupTable, groupOf, groupAt, productIn, limitAt}
 use Rattle.record.specs.Check.{checkAnswer}
 use Rattle.record.specs.Sound.{isExpanded}
-use Rattle.record.specs.Record.{check, checked, refusal, answer, answerBy, step}
+use Rattle.record.specs.Record.{check, checked, refusal, answer, answerBy, respond}
 use Rattle.record.specs.Theorems.{OneLevel, BetweenLimits, isWithin}
 
 pub one-level : (r : Record) → OneLevel r
@@ -42,9 +42,9 @@ module _ (r : Record) (p month price : ℕ) (w : BetweenLimits r p month price) 
       rw (le-leb (distance price (w .settlement)) (productIn (groupAt r (groupOf p)) p .expandedLimit) (w .notBeyondExpanded))
 
   -- what an accepted check answers
-  within-by-level : (size : ℕ) (v : Verdict) → step r (check p size month price) .answer ≡ checked v
+  within-by-level : (size : ℕ) (v : Verdict) → respond r (check p size month price) .answer ≡ checked v
       → isWithin v ≡ isExpanded (groupAt r (groupOf p) .level)
-  unfolding step answer checkAnswer
+  unfolding respond answer checkAnswer
   within-by-level size v e = go (refusal r (check p size month price)) e
     where
       go : (o : Option ℕ) → answerBy o (answer r (check p size month price)) ≡ checked v
@@ -56,7 +56,7 @@ module _ (r : Record) (p month price : ℕ) (w : BetweenLimits r p month price) 
 
 pub coupled : (r : Record) (p q i j m n x y : ℕ) (v w : Verdict) → groupOf p ≡ groupOf q
     → BetweenLimits r p m x → BetweenLimits r q n y
-    → step r (check p i m x) .answer ≡ checked v → step r (check q j n y) .answer ≡ checked w → isWithin v ≡ isWithin w
+    → respond r (check p i m x) .answer ≡ checked v → respond r (check q j n y) .answer ≡ checked w → isWithin v ≡ isWithin w
 coupled r p q i j m n x y v w e a b f h =
     within-by-level r p m x a i v f
     ∙ ap (λ (g : ℕ). isExpanded (groupAt r g .level)) e

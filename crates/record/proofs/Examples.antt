@@ -20,7 +20,7 @@ use Rattle.record.specs.Window.{collectedMonth, windowAfter}
 use Rattle.record.specs.End.{Event, Quiet, Lead, productMoves, groupMoves, eventOf, groupEvent, endProduct, endGroup}
 use Rattle.record.specs.Check.{checkTests, checkAnswer}
 use Rattle.record.specs.Sound.{isSoundSheet, isSoundWindow, isSoundProduct, isSoundGroup, isSoundCommon, isSound}
-use Rattle.record.specs.Record.{Call, opening, sheet, end, Answer, refused, opened, filed, ended, checked, isOutstanding, tests, refusal, answer, nextCommon, nextGroup, next, Result, step, stateAfter, answers}
+use Rattle.record.specs.Record.{Call, opening, sheet, end, Answer, refused, opened, filed, ended, checked, isOutstanding, tests, refusal, answer, nextCommon, nextGroup, next, Result, respond, stateAfter, answers}
 use Rattle.record.specs.History.{keptFrom}
 
 -- ---- products, groups, contract months and days by name
@@ -204,7 +204,7 @@ daysOf2025 calls (suc n) month day = calls (on 2025 month day 0) ++ daysOf2025 c
 -- ---- what is computed
 -- The Record after a list of calls. Its line opens every definition of the Record, so that a vector names only this one.
 unfoldable pub stateOf : Record → List Call → Record
-unfolding _and_ every isAscending sum steps floors firsts standardTicks miniTicks grainMonths soybeanMonths oilAndMealMonths riceMonths monthsTraded tickOf isTraded isOnTick expandedBy seasonBy isFit isLeap monthLengths monthLength isDate contractMonth seasonNumber daysRemaining isSpot verdict groupTable foundProduct foundGroup founded isFitStart isTrueDay openingTests isRenewed openProduct openGroup isMisshapen hasBadMonth hasBadSettlement lacksContract isBeyond sheetTests fileProduct fileGroup collectedMonth windowAfter productMoves groupMoves eventOf groupEvent endProduct endGroup checkTests checkAnswer isSoundSheet isSoundWindow isSoundProduct isSoundGroup isSoundCommon isSound isOutstanding tests refusal answer nextCommon nextGroup next step stateAfter answers keptFrom
+unfolding _and_ every isAscending sum steps floors firsts standardTicks miniTicks grainMonths soybeanMonths oilAndMealMonths riceMonths monthsTraded tickOf isTraded isOnTick expandedBy seasonBy isFit isLeap monthLengths monthLength isDate contractMonth seasonNumber daysRemaining isSpot verdict groupTable foundProduct foundGroup founded isFitStart isTrueDay openingTests isRenewed openProduct openGroup isMisshapen hasBadMonth hasBadSettlement lacksContract isBeyond sheetTests fileProduct fileGroup collectedMonth windowAfter productMoves groupMoves eventOf groupEvent endProduct endGroup checkTests checkAnswer isSoundSheet isSoundWindow isSoundProduct isSoundGroup isSoundCommon isSound isOutstanding tests refusal answer nextCommon nextGroup next respond stateAfter answers keptFrom
 stateOf r cs = stateAfter r cs
 
 -- the answers to further calls after a list of calls
@@ -262,12 +262,12 @@ runFrom t rest = afterOne t (rest (t .state))
 
 abbrev runOf : List Call → Record → Run
 runOf [] r = record { answers = []; state = r }
-runOf (c ∷ cs) r = runFrom (step r c) (runOf cs)
+runOf (c ∷ cs) r = runFrom (respond r c) (runOf cs)
 
 run-is : (cs : List Call) (r : Record) → runOf cs r ≡ record { answers = answers r cs; state = stateAfter r cs }
 unfolding answers stateAfter
 run-is [] r = refl
-run-is (c ∷ cs) r = ap (afterOne (step r c)) (run-is cs (step r c .state))
+run-is (c ∷ cs) r = ap (afterOne (respond r c)) (run-is cs (respond r c .state))
 
 abbrev outcomeOf : ℕ → Run → Outcome
 outcomeOf g u = outcomeBy (eventsOf g (u .answers)) (groupAt (u .state) g)
@@ -297,4 +297,4 @@ renewalBy t =
     }
 
 abbrev pub renewal : Record → List Call → Day → Renewal
-renewal r before d = renewalBy (step (stateOf r before) (opening d))
+renewal r before d = renewalBy (respond (stateOf r before) (opening d))

@@ -9,8 +9,8 @@ use Rattle.record.specs.Founding.{Start, foundProduct, foundGroup, found
 use Rattle.record.specs.Opening.{openGroup, openProduct}
 use Rattle.record.specs.End.{endGroup, endProduct}
 use Rattle.record.specs.Record.{Call}
-use Rattle.record.specs.History.{Filed, KeptDay, Entry, aDay, sheetAmong, openingsAndEnds, sheetsOf, productsOf, SameFor}
-use Rattle.record.specs.Replay.{commonAfter, holding, holdingGroup, endedIf, groupAfter, replay}
+use Rattle.record.specs.History.{ProductSheet, KeptDay, Entry, aDay, sheetAmong, openingsAndEnds, sheetsOf, productsOf, SameFor}
+use Rattle.record.specs.Replay.{commonAfter, productWith, groupWith, endedIf, groupAfter, replay}
 use Rattle.record.specs.Theorems.{after, historyOf}
 use Rattle.record.proofs.Maps.{map-map, map-same}
 use Rattle.record.proofs.Replayed.{replayed}
@@ -23,9 +23,9 @@ open-numbers : (c : Common) (d : Day) (g : Group) → numbers (openGroup c d g) 
 unfolding openGroup openProduct
 open-numbers c d g = map-map _ _ _ (λ q. refl) (g .products)
 
-hold-numbers : (fs : List Filed) (g : Group) → numbers (holdingGroup fs g) ≡ numbers g
-unfolding holdingGroup holding
-hold-numbers fs g = map-map _ _ _ (λ q. refl) (g .products)
+with-numbers : (fs : List ProductSheet) (g : Group) → numbers (groupWith fs g) ≡ numbers g
+unfolding groupWith productWith
+with-numbers fs g = map-map _ _ _ (λ q. refl) (g .products)
 
 end-numbers : (b : Bool) (d : Day) (g : Group) → numbers (endedIf b d g) ≡ numbers g
 unfolding endGroup endProduct
@@ -37,27 +37,27 @@ unfolding groupAfter
 after-numbers [] c g = refl
 after-numbers (aDay k ∷ es) c g =
     end-numbers (k .isEnded) (k .day) _
-    ∙ hold-numbers (k .sheets) _
+    ∙ with-numbers (k .sheets) _
     ∙ open-numbers (commonAfter es c) (k .day) _
     ∙ after-numbers es c g
 
 -- ---- the same sheets of its products, the same group
-hold-list : (s t : List Filed) (qs : List Product)
+with-list : (s t : List ProductSheet) (qs : List Product)
     → map (sheetAmong s) (map (λ (q : Product). q .number) qs) ≡ map (sheetAmong t) (map (λ (q : Product). q .number) qs)
-    → map (holding s) qs ≡ map (holding t) qs
-unfolding holding
-hold-list s t [] e = refl
-hold-list s t (q ∷ qs) e =
+    → map (productWith s) qs ≡ map (productWith t) qs
+unfolding productWith
+with-list s t [] e = refl
+with-list s t (q ∷ qs) e =
     let h : sheetAmong s (q .number) ≡ sheetAmong t (q .number) = cc in
     let l : map (sheetAmong s) (map (λ (q : Product). q .number) qs) ≡ map (sheetAmong t) (map (λ (q : Product). q .number) qs) = cc in
-    ap₂ _∷_ (rw h) (hold-list s t qs l)
+    ap₂ _∷_ (rw h) (with-list s t qs l)
 
-hold-same : (s t : List Filed) (ps : List ℕ) (g : Group) → numbers g ≡ ps
-    → map (sheetAmong s) ps ≡ map (sheetAmong t) ps → holdingGroup s g ≡ holdingGroup t g
-unfolding holdingGroup
-hold-same s t ps g n e =
+with-same : (s t : List ProductSheet) (ps : List ℕ) (g : Group) → numbers g ≡ ps
+    → map (sheetAmong s) ps ≡ map (sheetAmong t) ps → groupWith s g ≡ groupWith t g
+unfolding groupWith
+with-same s t ps g n e =
     ap (λ (l : List Product). record { level = g .level; mark = g .mark; products = l })
-    (hold-list s t (g .products) (rw n e))
+    (with-list s t (g .products) (rw n e))
 
 common-same : (c : Common) (es fs : List Entry) → openingsAndEnds es ≡ openingsAndEnds fs → commonAfter es c ≡ commonAfter fs c
 common-same c [] [] e = refl
@@ -69,13 +69,13 @@ common-same c (aDay k ∷ es) (aDay l ∷ fs) e =
     rw (d, b)
 
 abbrev daily : Common → KeptDay → Group → Group
-daily c k g = endedIf (k .isEnded) (k .day) (holdingGroup (k .sheets) (openGroup c (k .day) g))
+daily c k g = endedIf (k .isEnded) (k .day) (groupWith (k .sheets) (openGroup c (k .day) g))
 
 day-same : (ps : List ℕ) (k l : KeptDay) (c : Common) (g : Group) → numbers g ≡ ps
     → k .day ≡ l .day → k .isEnded ≡ l .isEnded → map (sheetAmong (k .sheets)) ps ≡ map (sheetAmong (l .sheets)) ps
     → daily c k g ≡ daily c l g
 day-same ps k l c g n d b s =
-    rw (d, b, hold-same (k .sheets) (l .sheets) ps (openGroup c (l .day) g) (open-numbers c (l .day) g ∙ n) s)
+    rw (d, b, with-same (k .sheets) (l .sheets) ps (openGroup c (l .day) g) (open-numbers c (l .day) g ∙ n) s)
 
 module _ (ps : List ℕ) (c : Common) (g : Group) (n : numbers g ≡ ps) where
   group-same : (es fs : List Entry) → openingsAndEnds es ≡ openingsAndEnds fs → sheetsOf ps es ≡ sheetsOf ps fs

@@ -6,7 +6,7 @@ use mathlib.Core.List.{List}
 use Rattle.record.specs.State.{Record, groupOf, groupAt}
 use Rattle.record.specs.Founding.{Start, isFitStart, founded}
 use Rattle.record.specs.Sound.{isSound}
-use Rattle.record.specs.Record.{Call, check, tests, refusal, answer, step}
+use Rattle.record.specs.Record.{Call, check, tests, refusal, answer, respond}
 use Rattle.record.specs.History.{SameFor}
 use Rattle.record.specs.Theorems.{after, historyOf, checkAfter, Theorems}
 use Rattle.record.proofs.Replayed.{replayed}
@@ -17,8 +17,8 @@ use Rattle.record.proofs.StaysSound.{founded-sound, always-sound, never
 -- a check on a sound Record reads what is common and the product's group
 check-reads : (r t : Record) (p size month price : ℕ) → isSound r ≡ true → isSound t ≡ true
     → r .common ≡ t .common → groupAt r (groupOf p) ≡ groupAt t (groupOf p)
-    → step r (check p size month price) .answer ≡ step t (check p size month price) .answer
-unfolding step refusal tests answer
+    → respond r (check p size month price) .answer ≡ respond t (check p size month price) .answer
+unfolding respond refusal tests answer
 check-reads r t p size month price s u c g = rw (s, u, c, g)
 
 stays-sound : (s : Start) → isFitStart s ≡ true → (cs : List Call) → isSound (after s cs) ≡ true

@@ -12,9 +12,9 @@ use Rattle.record.specs.Founding.{Start, founded}
 use Rattle.record.specs.Opening.{openGroup}
 use Rattle.record.specs.Sheet.{contracts, fileProduct, fileGroup}
 use Rattle.record.specs.Sound.{isSound}
-use Rattle.record.specs.Record.{Call, opening, sheet, end, check, tests, refusal, next, nextCommon, nextGroup, step, stateBy, stateAfter}
-use Rattle.record.specs.History.{Filed, Entry, aDay, add, sheetAmong}
-use Rattle.record.specs.Replay.{commonAfter, over, holding, holdingGroup, groupAfter, replay}
+use Rattle.record.specs.Record.{Call, opening, sheet, end, check, tests, refusal, next, nextCommon, nextGroup, respond, stateBy, stateAfter}
+use Rattle.record.specs.History.{ProductSheet, Entry, aDay, add, sheetAmong}
+use Rattle.record.specs.Replay.{commonAfter, over, productWith, groupWith, groupAfter, replay}
 use Rattle.record.specs.Theorems.{after, historyOf}
 use Rattle.record.proofs.Maps.{map-map, map-same}
 use Rattle.record.proofs.Checks.{check-same}
@@ -25,28 +25,28 @@ abbrev withProducts : Group → List Product → Group
 withProducts g l = record { level = g .level; mark = g .mark; products = l }
 
 -- no sheet: nothing changes
-hold-none : (g : Group) → holdingGroup [] g ≡ g
-unfolding holdingGroup holding
-hold-none g = ap (withProducts g) (map-same (holding []) (λ q. refl) (g .products))
+with-none : (g : Group) → groupWith [] g ≡ g
+unfolding groupWith productWith
+with-none g = ap (withProducts g) (map-same (productWith []) (λ q. refl) (g .products))
 
 over-cond : (b : Bool) (s : Sheet) (o w : Option Sheet) → cond b (some s) (over o w) ≡ over (cond b (some s) o) w
 over-cond true s o w = refl
 over-cond false s o w = refl
 
 -- a sheet more, of a product and of a group
-module _ (f : Filed) (fs : List Filed) where
-  filed-one : (q : Product) → fileProduct (f .product) (f .sheet) (holding fs q) ≡ holding (f ∷ fs) q
-  unfolding holding fileProduct
+module _ (f : ProductSheet) (fs : List ProductSheet) where
+  filed-one : (q : Product) → fileProduct (f .product) (f .sheet) (productWith fs q) ≡ productWith (f ∷ fs) q
+  unfolding productWith fileProduct
   filed-one q =
       ap
       (λ (o : Option Sheet). record { number = q .number; initialLimit = q .initialLimit; expandedLimit = q .expandedLimit; window = q .window; today = o; last = q .last })
       (over-cond (eqb (q .number) (f .product)) (f .sheet) (sheetAmong fs (q .number)) (q .today))
 
-  filed-more : (g : Group) → fileGroup (f .product) (f .sheet) (holdingGroup fs g) ≡ holdingGroup (f ∷ fs) g
-  unfolding holdingGroup fileGroup
+  filed-more : (g : Group) → fileGroup (f .product) (f .sheet) (groupWith fs g) ≡ groupWith (f ∷ fs) g
+  unfolding groupWith fileGroup
   filed-more g =
       ap (withProducts g)
-      (map-map (fileProduct (f .product) (f .sheet)) (holding fs) (holding (f ∷ fs)) filed-one (g .products))
+      (map-map (fileProduct (f .product) (f .sheet)) (productWith fs) (productWith (f ∷ fs)) filed-one (g .products))
 
 abbrev withGroups : Common → List Group → Record
 withGroups c l = record { common = c; groups = l }
@@ -58,10 +58,10 @@ module _ (r₀ : Record) where
       ap (withGroups (commonAfter (add (opening d) es) (r₀ .common)))
       (map-map (openGroup (commonAfter es (r₀ .common)) d) (groupAfter es (r₀ .common))
       (groupAfter (add (opening d) es) (r₀ .common))
-      (λ g. sym (hold-none (openGroup (commonAfter es (r₀ .common)) d (groupAfter es (r₀ .common) g)))) (r₀ .groups))
+      (λ g. sym (with-none (openGroup (commonAfter es (r₀ .common)) d (groupAfter es (r₀ .common) g)))) (r₀ .groups))
 
   -- a sheet, on a day that is open
-  sheet-on : (p : ℕ) (ms ss : List ℕ) (d : Day) (fs : List Filed) (b : Bool) (es : List Entry) → not b ≡ true
+  sheet-on : (p : ℕ) (ms ss : List ℕ) (d : Day) (fs : List ProductSheet) (b : Bool) (es : List Entry) → not b ≡ true
       → let ks = aDay (record { day = d; sheets = fs; isEnded = b }) ∷ es in
       next (replay ks r₀) (sheet p ms ss) ≡ replay (add (sheet p ms ss) ks) r₀
   unfolding next nextCommon nextGroup replay groupAfter
@@ -70,7 +70,7 @@ module _ (r₀ : Record) where
       ap (withGroups (record { opened = some d; isOpen = true }))
       (map-map _ _ _ (λ g. filed-more (record { product = p; sheet = contracts ms ss }) _ _) (r₀ .groups))
 
-  end-on : (d : Day) (fs : List Filed) (b : Bool) (es : List Entry) → not b ≡ true
+  end-on : (d : Day) (fs : List ProductSheet) (b : Bool) (es : List Entry) → not b ≡ true
       → let ks = aDay (record { day = d; sheets = fs; isEnded = b }) ∷ es in
       next (replay ks r₀) end ≡ replay (add end ks) r₀
   unfolding next nextCommon nextGroup replay groupAfter
@@ -108,8 +108,8 @@ module _ (r₀ : Record) (f : IsFresh r₀) where
   accepted (check p size month price) es e = check-same (replay es r₀) p size month price
 
   stepped : (c : Call) (es : List Entry)
-      → step (replay es r₀) c .state ≡ replay (addUnless (refusal (replay es r₀) c) c es) r₀
-  unfolding step
+      → respond (replay es r₀) c .state ≡ replay (addUnless (refusal (replay es r₀) c) c es) r₀
+  unfolding respond
   stepped c es = go (refusal (replay es r₀) c) refl
     where
       go : (o : Option ℕ) → refusal (replay es r₀) c ≡ o → stateBy o (replay es r₀) c ≡ replay (addUnless o c es) r₀

@@ -16,7 +16,7 @@ use Rattle.record.specs.Opening.{openingTests}
 use Rattle.record.specs.Sheet.{sheetTests}
 use Rattle.record.specs.Check.{checkTests}
 use Rattle.record.specs.Sound.{isSoundGroup, isSoundCommon, isSound}
-use Rattle.record.specs.Record.{Call, opening, sheet, end, check, tests, refusal, answer, stateBy, step, stateAfter, answers}
+use Rattle.record.specs.Record.{Call, opening, sheet, end, check, tests, refusal, answer, stateBy, respond, stateAfter, answers}
 use Rattle.record.specs.Theorems.{isRefusal}
 use Rattle.record.proofs.Cleared.{cleared, not-returned}
 use Rattle.record.proofs.SoundGroups.{found-group}
@@ -33,9 +33,9 @@ founded-sound s t =
       lasts = refl;
     }
 
-pub step-sound : (r : Record) (c : Call) → isSound r ≡ true → isSound (step r c .state) ≡ true
-unfolding step refusal
-step-sound r c t = go (refusal r c) refl
+pub respond-sound : (r : Record) (c : Call) → isSound r ≡ true → isSound (respond r c .state) ≡ true
+unfolding respond refusal
+respond-sound r c t = go (refusal r c) refl
   where
     go : (o : Option ℕ) → refusal r c ≡ o → isSound (stateBy o r c) ≡ true
     go (some n) e = t
@@ -44,7 +44,7 @@ step-sound r c t = go (refusal r c) refl
 pub always-sound : (r : Record) (cs : List Call) → isSound r ≡ true → isSound (stateAfter r cs) ≡ true
 unfolding stateAfter
 always-sound r [] t = t
-always-sound r (c ∷ cs) t = always-sound (step r c .state) cs (step-sound r c t)
+always-sound r (c ∷ cs) t = always-sound (respond r c .state) cs (respond-sound r c t)
 
 -- no test after the first returns 1, and no accepted call answers it
 later-tests : (r : Record) (c : Call) → every (λ t. not (eqb (t .number) unsound)) (tests r c) ≡ true
@@ -61,12 +61,12 @@ own-answer r (sheet p ms ss) = refl
 own-answer r end = refl
 own-answer r (check p size month price) = refl
 
-step-not-unsound : (r : Record) (c : Call) → isSound r ≡ true → not (isRefusal unsound (step r c .answer)) ≡ true
-unfolding step refusal
-step-not-unsound r c t = rw t (not-returned unsound (answer r c) (own-answer r c) (tests r c) (later-tests r c))
+respond-not-unsound : (r : Record) (c : Call) → isSound r ≡ true → not (isRefusal unsound (respond r c .answer)) ≡ true
+unfolding respond refusal
+respond-not-unsound r c t = rw t (not-returned unsound (answer r c) (own-answer r c) (tests r c) (later-tests r c))
 
 pub never-unsound : (r : Record) (cs : List Call) → isSound r ≡ true
     → every (λ a. not (isRefusal unsound a)) (answers r cs) ≡ true
 unfolding every answers
 never-unsound r [] t = refl
-never-unsound r (c ∷ cs) t = both _ _ (step-not-unsound r c t) (never-unsound (step r c .state) cs (step-sound r c t))
+never-unsound r (c ∷ cs) t = both _ _ (respond-not-unsound r c t) (never-unsound (respond r c .state) cs (respond-sound r c t))

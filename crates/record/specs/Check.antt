@@ -11,7 +11,7 @@ use Rattle.grain.specs.Refusals.{noSuchProduct, badPrice}
 use Rattle.grain.specs.declared.check.Verdict.{Verdict}
 use Rattle.record.specs.Choices.{isSome, orElse}
 use Rattle.record.specs.Refusals.{Test, when, notListed}
-use Rattle.record.specs.State.{Group, Common, dayOf, monthOf, isSpotOn, productIn, limitIn, sheetOr, settlementOn}
+use Rattle.record.specs.State.{Group, Common, dayOf, monthOf, isSpotOn, productIn, todaysLimit, sheetOr, settlementOn}
 
 -- the settlement that a check takes: of the last ended day, of a month that is not before the open day's
 abbrev pub listed : Common → Group → ℕ → ℕ → Option ℕ
@@ -28,4 +28,4 @@ checkTests c g p size month price =
 
 unfoldable pub checkAnswer : Common → Group → ℕ → ℕ → ℕ → Verdict
 checkAnswer c g p month price =
-    verdict (isSpotOn (dayOf c) month) (orElse (listed c g p month) 0) (limitIn g p) price
+    verdict (isSpotOn (dayOf c) month) (orElse (listed c g p month) 0) (todaysLimit g p) price

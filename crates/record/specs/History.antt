@@ -10,14 +10,14 @@ use Rattle.record.specs.State.{Day, Sheet, groupTable}
 use Rattle.record.specs.Sheet.{contracts}
 use Rattle.record.specs.Record.{Call, opening, sheet, end, check, Answer, refused, opened, filed, ended, checked}
 
-pub record Filed : Type 0 where
+pub record ProductSheet : Type 0 where
   pub product : ℕ
   pub sheet : Sheet
 
 -- A day: its accepted opening, the sheets that it got, and whether it is ended.
 pub record KeptDay : Type 0 where
   pub day : Day
-  pub sheets : List Filed
+  pub sheets : List ProductSheet
   pub isEnded : Bool
 
 -- What a history is made of.
@@ -25,7 +25,7 @@ pub data Entry : Type 0 where
   aDay : KeptDay → Entry
 
 -- what an accepted call adds
-abbrev pub withSheet : Filed → List Entry → List Entry
+abbrev pub withSheet : ProductSheet → List Entry → List Entry
 withSheet f [] = []
 withSheet f (aDay k ∷ es) = aDay (record { day = k .day; sheets = f ∷ k .sheets; isEnded = k .isEnded }) ∷ es
 
@@ -56,7 +56,7 @@ abbrev pub kept : List Call → List Answer → List Entry
 kept cs as′ = keptFrom [] cs as′
 
 -- the sheet that a product got on a day, if any
-abbrev pub sheetAmong : List Filed → ℕ → Option Sheet
+abbrev pub sheetAmong : List ProductSheet → ℕ → Option Sheet
 sheetAmong [] p = none
 sheetAmong (f ∷ fs) p = cond (eqb p (f .product)) (some (f .sheet)) (sheetAmong fs p)
 

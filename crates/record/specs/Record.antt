@@ -89,14 +89,14 @@ pub record Result : Type 0 where
   pub state : Record
   pub answer : Answer
 
-unfoldable pub step : Record → Call → Result
-step r c = record { state = stateBy (refusal r c) r c; answer = answerBy (refusal r c) (answer r c) }
+unfoldable pub respond : Record → Call → Result
+respond r c = record { state = stateBy (refusal r c) r c; answer = answerBy (refusal r c) (answer r c) }
 
 -- the state and the answers of a list of calls
 unfoldable pub stateAfter : Record → List Call → Record
 stateAfter r [] = r
-stateAfter r (c ∷ cs) = stateAfter (step r c .state) cs
+stateAfter r (c ∷ cs) = stateAfter (respond r c .state) cs
 
 unfoldable pub answers : Record → List Call → List Answer
 answers r [] = []
-answers r (c ∷ cs) = step r c .answer ∷ answers (step r c .state) cs
+answers r (c ∷ cs) = respond r c .answer ∷ answers (respond r c .state) cs

@@ -5,7 +5,7 @@ use mathlib.Core.Option.{Option, some, none}
 use Rattle.record.specs.State.{Day, Sheet, Product, Group, Common, Record}
 use Rattle.record.specs.Opening.{openGroup}
 use Rattle.record.specs.End.{endGroup}
-use Rattle.record.specs.History.{Filed, Entry, aDay, sheetAmong}
+use Rattle.record.specs.History.{ProductSheet, Entry, aDay, sheetAmong}
 
 -- what is common after a history that began with c
 abbrev pub commonAfter : List Entry → Common → Common
@@ -17,8 +17,8 @@ abbrev pub over : Option Sheet → Option Sheet → Option Sheet
 over none o = o
 over (some s) o = some s
 
-unfoldable pub holding : List Filed → Product → Product
-holding fs q =
+unfoldable pub productWith : List ProductSheet → Product → Product
+productWith fs q =
     record {
       number = q .number;
       initialLimit = q .initialLimit;
@@ -29,8 +29,8 @@ holding fs q =
     }
 
 -- a group with the sheets of a day in
-unfoldable pub holdingGroup : List Filed → Group → Group
-holdingGroup fs g = record { level = g .level; mark = g .mark; products = map (holding fs) (g .products) }
+unfoldable pub groupWith : List ProductSheet → Group → Group
+groupWith fs g = record { level = g .level; mark = g .mark; products = map (productWith fs) (g .products) }
 
 abbrev pub endedIf : Bool → Day → Group → Group
 endedIf true d g = endGroup (record { opened = some d; isOpen = true }) g
@@ -40,7 +40,7 @@ endedIf false d g = g
 unfoldable pub groupAfter : List Entry → Common → Group → Group
 groupAfter [] c g = g
 groupAfter (aDay k ∷ es) c g =
-    endedIf (k .isEnded) (k .day) (holdingGroup (k .sheets) (openGroup (commonAfter es c) (k .day) (groupAfter es c g)))
+    endedIf (k .isEnded) (k .day) (groupWith (k .sheets) (openGroup (commonAfter es c) (k .day) (groupAfter es c g)))
 
 unfoldable pub replay : List Entry → Record → Record
 replay es r =

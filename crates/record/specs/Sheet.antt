@@ -11,7 +11,7 @@ use Rattle.grain.specs.Prices.{isSettlement}
 use Rattle.grain.specs.Refusals.{misshapen, badPrice}
 use Rattle.record.specs.Choices.{isSome}
 use Rattle.record.specs.Refusals.{Test, when, alreadyIn, badMonth, contractAbsent, beyondLimit}
-use Rattle.record.specs.State.{Contract, Sheet, Product, Group, Common, dayOf, monthOf, isSpotOn, productIn, limitIn, sheetOr, settlementOn}
+use Rattle.record.specs.State.{Contract, Sheet, Product, Group, Common, dayOf, monthOf, isSpotOn, productIn, todaysLimit, sheetOr, settlementOn}
 
 -- the two arrays as contracts
 abbrev pub contracts : List ℕ → List ℕ → Sheet
@@ -59,7 +59,7 @@ sheetTests c g p ms ss =
     ∷ when (hasBadMonth (monthOf d) p ms) badMonth
     ∷ when (hasBadSettlement p ss) badPrice
     ∷ when (lacksContract (isSpotOn d) (sheetOr (q .last)) (contracts ms ss)) contractAbsent
-    ∷ when (isBeyond (isSpotOn d) (limitIn g p) (sheetOr (q .last)) (contracts ms ss)) beyondLimit
+    ∷ when (isBeyond (isSpotOn d) (todaysLimit g p) (sheetOr (q .last)) (contracts ms ss)) beyondLimit
     ∷ []
 
 unfoldable pub fileProduct : ℕ → Sheet → Product → Product

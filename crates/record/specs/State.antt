@@ -97,8 +97,8 @@ limitAt initial i e = i
 limitAt expanded i e = e
 
 -- today's limit of a product of the group: I or E by the group's level
-abbrev pub limitIn : Group → ℕ → ℕ
-limitIn g p = limitAt (g .level) (productIn g p .initialLimit) (productIn g p .expandedLimit)
+abbrev pub todaysLimit : Group → ℕ → ℕ
+todaysLimit g p = limitAt (g .level) (productIn g p .initialLimit) (productIn g p .expandedLimit)
 
 abbrev pub sheetOr : Option Sheet → Sheet
 sheetOr s = orElse s []

@@ -9,11 +9,11 @@ use Rattle.grain.specs.Lists.{every, distance}
 use Rattle.grain.specs.declared.check.Verdict.{Verdict}
 use Rattle.grain.specs.declared.check.Verdict.the-variants.{Free, Within, Below, Above}
 use Rattle.record.specs.Refusals.{unsound}
-use Rattle.record.specs.State.{Level, Record, dayOf, isSpotOn, groupOf, groupAt, productIn, limitAt, limitIn}
+use Rattle.record.specs.State.{Level, Record, dayOf, isSpotOn, groupOf, groupAt, productIn, limitAt, todaysLimit}
 use Rattle.record.specs.Founding.{Start, isFitStart, founded}
 use Rattle.record.specs.Check.{listed}
 use Rattle.record.specs.Sound.{isSound}
-use Rattle.record.specs.Record.{Call, check, Answer, refused, opened, filed, ended, checked, step, stateAfter, answers}
+use Rattle.record.specs.Record.{Call, check, Answer, refused, opened, filed, ended, checked, respond, stateAfter, answers}
 use Rattle.record.specs.History.{Entry, kept, SameFor}
 use Rattle.record.specs.Replay.{replay}
 
@@ -26,7 +26,7 @@ historyOf s cs = kept cs (answers (founded s) cs)
 
 -- the answer that a further price check gets
 abbrev pub checkAfter : Start → List Call → ℕ → ℕ → ℕ → ℕ → Answer
-checkAfter s cs p size month price = step (after s cs) (check p size month price) .answer
+checkAfter s cs p size month price = respond (after s cs) (check p size month price) .answer
 
 abbrev pub isRefusal : ℕ → Answer → Bool
 isRefusal n (refused m) = eqb m n
@@ -37,14 +37,17 @@ isRefusal n (checked v) = false
 
 -- ---- the Soybean Complex
 
--- a product of the Record stands on a level, and the limit that a check and refusal 10 use is that level's, by its own amounts
+-- a product of the Record stands on a level, and the limit that a check and refusal 10 use is that level's, by its own amounts.
+-- `limit` holds of every Record by the definition of todaysLimit: that a book's amounts are these is `compared` of history/specs/Whole.antt
 pub record Stands (r : Record) (l : Level) (p : ℕ) : Type 0 where
   pub level : groupAt r (groupOf p) .level ≡ l
   pub limit :
-      limitIn (groupAt r (groupOf p)) p
+      todaysLimit (groupAt r (groupOf p)) p
       ≡ limitAt l (productIn (groupAt r (groupOf p)) p .initialLimit) (productIn (groupAt r (groupOf p)) p .expandedLimit)
 
--- Soybeans, Soybean Oil and Soybean Meal stand on one level
+-- Soybeans, Soybean Oil and Soybean Meal stand on one level.
+-- It holds of every Record by its shape, as a level belongs to a group: what no shape decides is `coupled` below, of the answers that checks
+-- get, and `compared` of history/specs/Whole.antt, of the levels that a book holds
 pub record OneLevel (r : Record) : Type 0 where
   pub level : Level
   pub soybeans : Stands r level 1

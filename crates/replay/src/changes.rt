@@ -31,9 +31,9 @@ pub fn fresh() -> State {
 fn found(s: State, numbers: &Numbers, out: &mut Buffer) -> State {
     let f = book::found(*numbers);
     if f.refusal != 0 {
-        let mut n = s;
-        n.at = put_refusal(out, s.at, f.refusal);
-        return n;
+        let mut next = s;
+        next.at = put_refusal(out, s.at, f.refusal);
+        return next;
     }
     let book = f.book;
     let at = put(out, s.at, b"founded\n");
@@ -47,16 +47,16 @@ fn found(s: State, numbers: &Numbers, out: &mut Buffer) -> State {
 fn open(s: State, numbers: &Numbers, out: &mut Buffer) -> State {
     let b = s.book;
     let o = opening::opening(b, numbers[0], numbers[1], numbers[2], numbers[3]);
-    let mut n = s;
+    let mut next = s;
     if o.refusal != 0 {
-        n.at = put_refusal(out, s.at, o.refusal);
-        return n;
+        next.at = put_refusal(out, s.at, o.refusal);
+        return next;
     }
     let renewed = o.renewed;
-    n.at = put_renewed(out, s.at, renewed);
+    next.at = put_renewed(out, s.at, renewed);
     let book = o.book;
-    n.book = book;
-    n
+    next.book = book;
+    next
 }
 
 // The first n entries, or all where there are no more.
@@ -70,36 +70,36 @@ fn first(entries: &[u32], n: usize) -> &[u32] {
 fn sheet(s: State, product: u32, months: &[u32], settlements: &[u32], out: &mut Buffer) -> State {
     let b = s.book;
     let f = filing::sheet(b, product, months, settlements);
-    let mut n = s;
+    let mut next = s;
     if f.refusal != 0 {
-        n.at = put_refusal(out, s.at, f.refusal);
-        return n;
+        next.at = put_refusal(out, s.at, f.refusal);
+        return next;
     }
-    n.at = put(out, s.at, b"filed\n");
+    next.at = put(out, s.at, b"filed\n");
     let book = f.book;
-    n.book = book;
-    n
+    next.book = book;
+    next
 }
 
 fn end(s: State, out: &mut Buffer) -> State {
     let b = s.book;
     let e = ending::end(b);
-    let mut n = s;
+    let mut next = s;
     if e.refusal != 0 {
-        n.at = put_refusal(out, s.at, e.refusal);
-        return n;
+        next.at = put_refusal(out, s.at, e.refusal);
+        return next;
     }
     let events = e.events;
-    n.at = put_events(out, s.at, events);
+    next.at = put_events(out, s.at, events);
     let book = e.book;
-    n.book = book;
-    n
+    next.book = book;
+    next
 }
 
 fn without_book(s: State, out: &mut Buffer) -> State {
-    let mut n = s;
-    n.at = put(out, s.at, b"no book\n");
-    n
+    let mut next = s;
+    next.at = put(out, s.at, b"no book\n");
+    next
 }
 
 pub fn changed(

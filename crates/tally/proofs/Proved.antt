@@ -8,7 +8,7 @@ use borrow.Author.Tests.{ne-eqb}
 use Rattle.grain.specs.Refusals.{unsound}
 use Rattle.tally.specs.declared.Tally.{Tally}
 use Rattle.tally.specs.Tally.{tallyFull, isSoundTally, isFull, tallyRefusal, counted}
-use Rattle.tally.specs.Through.{Checks, Through, done, asks, noCounts, talliedAnswer, tallyAfter, answersThrough, tallyThrough, Counts, Refusing, ThroughOneTally}
+use Rattle.tally.specs.Through.{TalliedCall, Through, done, asks, noCounts, talliedAnswer, tallyAfter, answersThrough, tallyThrough, Counts, Refusing, ThroughOneTally}
 use Rattle.tally.proofs.Totals.{Lawful, totals}
 
 from-zero : (k m : ℕ) → k ≡ 0 + m → k ≡ m
@@ -22,7 +22,7 @@ full-refuses : (t : Tally) → isSoundTally t ≡ true → isFull t ≡ true →
 unfolding tallyRefusal
 full-refuses t e f = rw (e, f)
 
-module _ (k : Checks) (law : Lawful k) where
+module _ (k : TalliedCall) (law : Lawful k) where
   answered : {t z : Tally} {cs : List (k .Ask)} {rs : List (k .Answer)} → Through k t cs rs z → rs ≡ answersThrough k t cs
   unfolding answersThrough
   answered done = refl

@@ -10,10 +10,10 @@ use Rattle.tally.specs.declared.Tally.{Tally}
 use Rattle.tally.specs.declared.Kind.{Kind}
 use Rattle.tally.specs.declared.Kind.the-variants.{Free, Within, Below, Above, Refused}
 use Rattle.tally.specs.Tally.{tallyFull, sumOf, isSoundTally, isFull, tallyRefusal, oneMore, counted}
-use Rattle.tally.specs.Through.{Checks, Through, done, asks, howMany, sameKind, talliedAnswer, tallyAfter, isCounted, isOf}
+use Rattle.tally.specs.Through.{TalliedCall, Through, done, asks, howMany, sameKind, talliedAnswer, tallyAfter, isCounted, isOf}
 
 -- what the theorem asks of a call: its contract, and that no check answers 15 by itself
-pub record Lawful (k : Checks) : Type 0 where
+pub record Lawful (k : TalliedCall) : Type 0 where
   pub answers : (t : Tally) (c : k .Ask) (r : k .Answer) (u : Tally) → k .Promise t c r u → r ≡ talliedAnswer k t c
   pub tally : (t : Tally) (c : k .Ask) (r : k .Answer) (u : Tally) → k .Promise t c r u → u ≡ tallyAfter k t c
   pub notFull : (c : k .Ask) → k .isTallyFull (k .answerTo c) ≡ false
@@ -51,7 +51,7 @@ one-sound t Refused e = omega arith
 after-one : (n m k i j : ℕ) → m ≡ n + i → k ≡ m + j → k ≡ n + (i + j)
 after-one n m k i j e f = omega arith
 
-module _ (k : Checks) (law : Lawful k) where
+module _ (k : TalliedCall) (law : Lawful k) where
   -- what one check through a sound tally adds, and that the tally stays sound
   record Added (t : Tally) (a : k .Answer) (u : Tally) : Type 0 where
     pub adds : Adds t (isCounted k a) (k .kindOf a) u

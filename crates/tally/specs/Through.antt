@@ -1,4 +1,4 @@
--- Checks through one tally, one after another, whatever is asked and answered; and what is shown of every list of them, in proofs/Proved.antt.
+-- TalliedCall through one tally, one after another, whatever is asked and answered; and what is shown of every list of them, in proofs/Proved.antt.
 use Prim.Native.Nat.{ℕ, _+_}
 use mathlib.Core.Path.{_≡_}
 use mathlib.Core.Bool.{Bool, true, false, not, cond, _&&_}
@@ -11,7 +11,7 @@ use Rattle.tally.specs.declared.Kind.the-variants.{Free, Within, Below, 
 use Rattle.tally.specs.Tally.{tallyFull, isSoundTally, isFull, tallyRefusal, takes, counted}
 
 -- a call that checks through a tally
-pub record Checks : Type 1 where
+pub record TalliedCall : Type 1 where
   -- what is asked, without the tally, and what is answered
   pub Ask : Type 0
   pub Answer : Type 0
@@ -27,7 +27,7 @@ pub record Checks : Type 1 where
   pub Promise : Tally → Ask → Answer → Tally → Type 0
 
 -- It holds what the contract says, and nothing else: the tally before, the checks, their answers, the tally after.
-pub data Through (k : Checks) : Tally → List (k .Ask) → List (k .Answer) → Tally → Type 0 where
+pub data Through (k : TalliedCall) : Tally → List (k .Ask) → List (k .Answer) → Tally → Type 0 where
   done : {t : Tally} → Through k t [] [] t
   asks : {t u z : Tally} {c : k .Ask} {cs : List (k .Ask)} {r : k .Answer} {rs : List (k .Answer)}
       → k .Promise t c r u → Through k u cs rs z → Through k t (c ∷ cs) (r ∷ rs) z
@@ -52,7 +52,7 @@ kindNumber Refused = 4
 abbrev pub sameKind : Kind → Kind → Bool
 sameKind j k = eqb (kindNumber j) (kindNumber k)
 
-module _ (k : Checks) where
+module _ (k : TalliedCall) where
   -- what a list of checks answers and leaves
   unfoldable pub talliedAnswer : Tally → k .Ask → k .Answer
   talliedAnswer t c = cond (takes t) (k .answerTo c) (k .refused (tallyRefusal t))

@@ -11,7 +11,7 @@ use Rattle.grain.proofs.Tests.{and-left, and-right}
 use Rattle.record.specs.Refusals.{Test, when, first, unsound}
 use Rattle.record.specs.Check.{checkTests}
 use Rattle.record.specs.Sound.{isSound}
-use Rattle.record.specs.Record.{check, Answer, tests, refusal, answer, answerBy, step}
+use Rattle.record.specs.Record.{check, Answer, tests, refusal, answer, answerBy, respond}
 use Rattle.record.specs.Theorems.{isRefusal}
 use Rattle.book.specs.declared.Book.{Book}
 use Rattle.book.specs.Book.{view}
@@ -33,7 +33,7 @@ first-other (t ∷ l) o a e = go (t .applies) (not-true _ (and-left _ _ o)) (fir
     go false f later = later
 
 pub book-counted : (b : Book) (p size month price : ℕ) → isRefusal tallyFull (bookAnswer b p size month price) ≡ false
-unfolding step refusal tests checkTests answer every _and_
+unfolding respond refusal tests checkTests answer every _and_
 book-counted b p size month price =
     first-other (when (not (isSound (view b))) unsound ∷ tests (view b) (check p size month price)) refl
     (answer (view b) (check p size month price)) refl

@@ -2,7 +2,7 @@
 use Prim.Native.Nat.{ℕ}
 use mathlib.Core.Path.{_≡_}
 use mathlib.Core.Bool.{cond}
-use Rattle.record.specs.Record.{check, Answer, refused, opened, filed, ended, checked, step}
+use Rattle.record.specs.Record.{check, Answer, refused, opened, filed, ended, checked, respond}
 use Rattle.book.specs.declared.Book.{Book}
 use Rattle.book.specs.Book.{view}
 use Rattle.tally.specs.declared.Tally.{Tally}
@@ -20,7 +20,7 @@ kindOf (ended l) = Refused
 
 -- what the Record of the book answers
 abbrev pub bookAnswer : Book → ℕ → ℕ → ℕ → ℕ → Answer
-bookAnswer b p size month price = step (view b) (check p size month price) .answer
+bookAnswer b p size month price = respond (view b) (check p size month price) .answer
 
 -- 15 and a tally's 1 are the tally's own; every other answer is the book's, and is counted, the book's own 1 too.
 -- The book is lent by value, and stays as it is.

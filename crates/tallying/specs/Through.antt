@@ -1,10 +1,10 @@
--- Checks on books through one tally, one after another: what is shown of every list of them is the tally's own theorem (ThroughOneTally).
+-- TalliedCall on books through one tally, one after another: what is shown of every list of them is the tally's own theorem (ThroughOneTally).
 use Prim.Native.Nat.{ℕ}
 use Rattle.record.specs.Record.{Answer, refused}
 use Rattle.record.specs.Theorems.{isRefusal}
 use Rattle.book.specs.declared.Book.{Book}
 use Rattle.tally.specs.Tally.{tallyFull}
-use Rattle.tally.specs.Through.{Checks, ThroughOneTally}
+use Rattle.tally.specs.Through.{TalliedCall, ThroughOneTally}
 use Rattle.tallying.specs.Tallies.{kindOf, bookAnswer, Tallies}
 
 -- one check; each may be on another book
@@ -15,7 +15,7 @@ pub record Ask : Type 0 where
   pub month : ℕ
   pub price : ℕ
 
-abbrev pub bookChecks : Checks
+abbrev pub bookChecks : TalliedCall
 bookChecks =
     record {
       Ask = Ask;

@@ -11,7 +11,7 @@ use Rattle.book.proofs.SoundFacts.{day-in}
 use Rattle.grain.specs.Prices.{isOnTick}
 use Rattle.grain.specs.Products.{tickOf}
 use Rattle.grain.specs.Check.{verdict}
-use Rattle.record.specs.State.{dayOf, isSpotOn, limitIn}
+use Rattle.record.specs.State.{dayOf, isSpotOn, todaysLimit}
 use Rattle.checking.proofs.Answers.{offered-product, not-offered, not-listed, bad-price, judged}
 use Rattle.checking.proofs.answer.Statement.{statement}
 use Rattle.checking.proofs.answer.Tie as tie
@@ -85,7 +85,7 @@ returns-4 c =
     let s = k .before .before .before .before .before .before in
     let spot : c .before .before .is-spot .result ≡ isSpotOn (dayOf (view (s .args .b) .common)) (s .args .month) =
     rw (day-in (s .args .b)) (c .before .before .is-spot .ensures ∙ rw (s .pre .2)) in
-    let is : c .judge .result ≡ verdict (isSpotOn (dayOf (view (s .args .b) .common)) (s .args .month)) (k .before .settlement .given .0 .0) (limitIn (groupAt (view (s .args .b)) (groupOf (s .args .product))) (s .args .product)) (s .args .price) =
+    let is : c .judge .result ≡ verdict (isSpotOn (dayOf (view (s .args .b) .common)) (s .args .month)) (k .before .settlement .given .0 .0) (todaysLimit (groupAt (view (s .args .b)) (groupOf (s .args .product))) (s .args .product)) (s .args .price) =
     c .judge .ensures ∙ rw (spot, c .before .limit-of .ensures) in
     rw is
     (judged (s .args .b) (s .args .product) (s .args .size) (s .args .month) (s .args .price) (s .pre .0) (s .pre .1)

@@ -10,7 +10,7 @@ use Rattle.book.specs.Book.{view}
 use Rattle.book.proofs.TradeDates.{has-date, date-is}
 use Rattle.book.proofs.SoundFacts.{open-true}
 use Rattle.book.proofs.Numbered.{unsound-refusal}
-use Rattle.book.proofs.Steps.{refused-steps}
+use Rattle.book.proofs.Responses.{refused-responds}
 use Rattle.checking.proofs.Answers.{closed}
 use Rattle.checking.proofs.check.Statement.{statement}
 use Rattle.checking.proofs.check.Tie as tie
@@ -22,7 +22,7 @@ returns : tie.Need-returns
 returns c =
     let s = c .before .before in
     let call = check (s .args .product) (s .args .size) (s .args .month) (s .args .price) in
-    refused-steps (s .args .b) call unsound (unsound-refusal (view (s .args .b)) call (sym (c .before .is-sound .ensures) ∙ not-true _ (c .if1 .taken)))
+    refused-responds (s .args .b) call unsound (unsound-refusal (view (s .args .b)) call (sym (c .before .is-sound .ensures) ∙ not-true _ (c .if1 .taken)))
 
 returns-2 : tie.Need-returns-2
 returns-2 c =

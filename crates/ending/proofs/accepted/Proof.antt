@@ -45,7 +45,7 @@ returns c =
       today = replicate 8 (c .none .result);
       last = b .today;
       day = b .day;
-      trading = false;
+      «is_open» = false;
     } in
     let after : Leaves b z es = record {
       events = rw (← (k .pre .2)) (e .events-of .ensures);
@@ -55,7 +55,7 @@ returns c =
       today = λ p h. rw (getD-replicate 8 p (c .none .result) noSheet h) (c .none .ensures);
       last = refl;
       day = refl;
-      trading = refl;
+      isOpen = refl;
     } in
     (refl, end-answer b z es after, end-view b z es after)
 

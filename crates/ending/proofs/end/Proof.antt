@@ -9,7 +9,7 @@ use Rattle.book.specs.Book.{view}
 use Rattle.book.proofs.TradeDates.{has-date, date-is}
 use Rattle.book.proofs.SoundFacts.{open-true}
 use Rattle.book.proofs.Numbered.{refused-by, accepted-by, accepted-sound}
-use Rattle.book.proofs.Steps.{refused-steps, accepted-steps}
+use Rattle.book.proofs.Responses.{refused-responds, accepted-responds}
 use Rattle.ending.specs.Ends.{eventsOf}
 use Rattle.ending.proofs.Outstanding.{accepted-open}
 use Rattle.ending.proofs.end.Statement.{statement}
@@ -28,7 +28,7 @@ returns c =
     let n = k .refusal-of .result in
     let e = refused-by (refusal (view b) end) n (k .refusal-of .ensures) (c .before .if1 .taken) in
     rw (c .refused .ensures)
-    (record { steps = rw (ne-eqb n 0 (c .before .if1 .taken)) (refused-steps b end n e); silent = λ m h. refl })
+    (record { responds = rw (ne-eqb n 0 (c .before .if1 .taken)) (refused-responds b end n e); silent = λ m h. refl })
 
 -- past the refusals
 passed : (c : tie.Else1) → refusal (view (c .before .before .args .b)) end ≡ none
@@ -75,7 +75,7 @@ returns-3 c =
     let r = c .accepted .result in
     let is = c .accepted .ensures in
     record {
-      steps = rw (is .0) (accepted-steps b end (ended (eventsOf (r .events))) (r .book) e (is .1) (is .2));
+      responds = rw (is .0) (accepted-responds b end (ended (eventsOf (r .events))) (r .book) e (is .1) (is .2));
       silent = λ n g. cc (e, g);
     }
 

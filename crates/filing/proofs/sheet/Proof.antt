@@ -15,7 +15,7 @@ use Rattle.book.specs.Book.{view}
 use Rattle.book.proofs.TradeDates.{has-date, date-is}
 use Rattle.book.proofs.SoundFacts.{open-true}
 use Rattle.book.proofs.Numbered.{refused-by, accepted-by}
-use Rattle.book.proofs.Steps.{refused-steps, accepted-steps}
+use Rattle.book.proofs.Responses.{refused-responds, accepted-responds}
 use Rattle.filing.specs.Files.{earlyTests, contractTests}
 use Rattle.filing.proofs.Filings.{Made, made, refused-early, refused-late, Early, early-none, early-facts, sheet-in}
 use Rattle.filing.proofs.sheet.Statement.{statement}
@@ -31,7 +31,7 @@ returns c =
     let call = sheet (a .product) (a .months .now) (a .settlements .now) in
     let by = refused-by (first (earlyTests (view (a .b)) (a .product) (a .months .now) (a .settlements .now))) n (c .before .early-refusal .ensures) (c .if1 .taken) in
     rw (ne-eqb n 0 (c .if1 .taken))
-    (refused-steps (a .b) call n (refused-early (view (a .b)) (a .product) (a .months .now) (a .settlements .now) n by))
+    (refused-responds (a .b) call n (refused-early (view (a .b)) (a .product) (a .months .now) (a .settlements .now) n by))
 
 -- past the early tests
 passed : (c : tie.Else1)
@@ -56,7 +56,7 @@ enum-told c = search needs
 true-day : (c : tie.Else1) → isTrueDay (c .before .before .before .before .args .b .day) ≡ true
 true-day c =
     let e = facts c in
-    open-true (c .before .before .before .before .args .b) (e .sound) (e .trading)
+    open-true (c .before .before .before .before .args .b) (e .sound) (e .isOpen)
 
 returns-2 : tie.Need-returns-2
 returns-2 c =
@@ -97,7 +97,7 @@ returns-3 c =
     let a = c .before .before .before .before .before .before .before .before .before .before .before .before .args in
     let n = c .before .contract-refusal .result in
     rw (ne-eqb n 0 (c .if2 .taken))
-    (refused-steps (a .b) (sheet (a .product) (a .months .now) (a .settlements .now)) n (refused-by _ n (late (c .before)) (c .if2 .taken)))
+    (refused-responds (a .b) (sheet (a .product) (a .months .now) (a .settlements .now)) n (refused-by _ n (late (c .before)) (c .if2 .taken)))
 
 with-sheet-requires : tie.Need-with-sheet-requires
 with-sheet-requires c κs = facts (c .before .before .before .before .before .before .before .before) .product
@@ -113,7 +113,7 @@ returns-4 c =
     let s = l .before .before .of .result in
     let call = sheet (a .product) (a .months .now) (a .settlements .now) in
     let some-contract : s .len ≡ 0 → ⊥ = λ z. e .arrays .some-contract (sym (made .len) ∙ z) in
-    accepted-steps (a .b) call filed (c .with-sheet .result)
+    accepted-responds (a .b) call filed (c .with-sheet .result)
     (accepted-by (view (a .b)) call _ (late (l .before)) (l .if2 .left)) refl
     (c .with-sheet .ensures (a .months .now) (a .settlements .now)
     (sheet-in s (contracts (a .months .now) (a .settlements .now)) some-contract (rw (made .len) (e .arrays .fits)) (made .entries)))

@@ -45,7 +45,7 @@ returns c =
       today = b .today;
       last = b .last;
       day = d;
-      trading = true;
+      «is_open» = true;
     } in
     let on : OpenedOn b d z =
     record {
@@ -55,7 +55,7 @@ returns c =
       today = refl;
       last = refl;
       day = refl;
-      trading = refl;
+      isOpen = refl;
     } in
     (refl, rw (c .renewed-on .ensures, next) (renewed-answer b d), opened-view b d z on (s .pre .1))
 

@@ -5,7 +5,7 @@ use borrow.Author.Tests.{ne-eqb}
 use Rattle.record.specs.Record.{opening, opened, refusal}
 use Rattle.book.specs.Book.{view}
 use Rattle.book.proofs.Numbered.{refused-by, accepted-by}
-use Rattle.book.proofs.Steps.{refused-steps, accepted-steps}
+use Rattle.book.proofs.Responses.{refused-responds, accepted-responds}
 use Rattle.opening.specs.Opens.{dated}
 use Rattle.opening.proofs.Refused.{accepted-opening}
 use Rattle.opening.proofs.opening.Statement.{statement}
@@ -20,7 +20,7 @@ returns c =
     let d = dated (a .year) (a .month) (a .day) (a .left) in
     let n = c .before .refusal-of .result in
     let by = refused-by (refusal (view (a .b)) (opening d)) n (c .before .refusal-of .ensures) (c .if1 .taken) in
-    record { steps = rw (ne-eqb n 0 (c .if1 .taken)) (refused-steps (a .b) (opening d) n by); silent = λ m e. refl }
+    record { responds = rw (ne-eqb n 0 (c .if1 .taken)) (refused-responds (a .b) (opening d) n by); silent = λ m e. refl }
 
 -- past the test nothing refuses it
 passes : (c : tie.Else1)
@@ -42,7 +42,7 @@ returns-2 c =
     let d = dated (a .year) (a .month) (a .day) (a .left) in
     let r = c .accepted .result in
     let e = c .accepted .ensures in
-    record { steps = rw (e .0) (accepted-steps (a .b) (opening d) (opened (r .renewed)) (r .book) (passes k) (e .1) (e .2)); silent = λ n f. cc (f, passes k) }
+    record { responds = rw (e .0) (accepted-responds (a .b) (opening d) (opened (r .renewed)) (r .book) (passes k) (e .1) (e .2)); silent = λ n f. cc (f, passes k) }
 
 pub opening-spec : {M : Type 1} → statement M
 opening-spec = tie.close (tie.spec refusal-of-requires returns accepted-requires returns-2)

@@ -30,7 +30,7 @@ fn bit_of(s: Standing, bit: Bit) -> bool {
     }
 }
 
-pub fn put_bits(out: &mut Buffer, at: usize, standings: [Standing; 6], bit: Bit) -> usize {
+pub(crate) fn put_bits(out: &mut Buffer, at: usize, standings: [Standing; 6], bit: Bit) -> usize {
     let mut end = at;
     for g in 0..6usize {
         let s = standings[g];
@@ -52,7 +52,7 @@ fn amount_of(limit: Limit, amount: Amount) -> u32 {
     }
 }
 
-pub fn put_limits(out: &mut Buffer, at: usize, limits: [Limit; 8], amount: Amount) -> usize {
+pub(crate) fn put_limits(out: &mut Buffer, at: usize, limits: [Limit; 8], amount: Amount) -> usize {
     let mut end = at;
     for p in 0..8usize {
         let limit = limits[p];
@@ -83,7 +83,7 @@ fn put_window(out: &mut Buffer, at: usize, w: Windows, p: usize) -> usize
     put_byte(out, end, b']')
 }
 
-pub fn put_windows(out: &mut Buffer, at: usize, w: Windows) -> usize {
+pub(crate) fn put_windows(out: &mut Buffer, at: usize, w: Windows) -> usize {
     let mut end = at;
     for p in 0..8usize {
         end = put_mark(out, end, b';', p);
@@ -117,7 +117,7 @@ fn put_sheet(out: &mut Buffer, at: usize, s: Sheet) -> usize {
     put_byte(out, end, b']')
 }
 
-pub fn put_sheets(out: &mut Buffer, at: usize, sheets: [Sheet; 8]) -> usize {
+pub(crate) fn put_sheets(out: &mut Buffer, at: usize, sheets: [Sheet; 8]) -> usize {
     let mut end = at;
     for p in 0..8usize {
         let s = sheets[p];

@@ -5,10 +5,10 @@ mod replies;
 mod whole;
 
 pub use output::Buffer;
-pub use output::flush;
-pub use output::put;
-pub use replies::put_events;
-pub use replies::put_refusal;
-pub use replies::put_renewed;
-pub use replies::put_verdict;
-pub use whole::put_book;
+pub(crate) use output::flush;
+pub(crate) use output::put;
+pub(crate) use replies::put_events;
+pub(crate) use replies::put_refusal;
+pub(crate) use replies::put_renewed;
+pub(crate) use replies::put_verdict;
+pub(crate) use whole::put_book;

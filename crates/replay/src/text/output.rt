@@ -12,12 +12,12 @@ fn write_first(out: &[u8], n: usize) {
 }
 
 // Writes what is collected, after which nothing is.
-pub fn flush(out: &mut Buffer, at: usize) {
+pub(crate) fn flush(out: &mut Buffer, at: usize) {
     write_first(out, at);
 }
 
 // This and those that follow answer how many bytes are taken then.
-pub fn put_byte(out: &mut Buffer, at: usize, b: u8) -> usize {
+pub(crate) fn put_byte(out: &mut Buffer, at: usize, b: u8) -> usize {
     if at < 65536 {
         out[at] = b;
         return at + 1;
@@ -27,14 +27,14 @@ pub fn put_byte(out: &mut Buffer, at: usize, b: u8) -> usize {
     1
 }
 
-pub fn put_bit(out: &mut Buffer, at: usize, bit: bool) -> usize {
+pub(crate) fn put_bit(out: &mut Buffer, at: usize, bit: bool) -> usize {
     if bit {
         return put_byte(out, at, b'1');
     }
     put_byte(out, at, b'0')
 }
 
-pub fn put(out: &mut Buffer, at: usize, text: &[u8]) -> usize {
+pub(crate) fn put(out: &mut Buffer, at: usize, text: &[u8]) -> usize {
     let mut end = at;
     let mut i = 0;
     while i < text.len() {
@@ -44,7 +44,7 @@ pub fn put(out: &mut Buffer, at: usize, text: &[u8]) -> usize {
     end
 }
 
-pub fn put_number(out: &mut Buffer, at: usize, n: u32) -> usize {
+pub(crate) fn put_number(out: &mut Buffer, at: usize, n: u32) -> usize {
     let mut text = [0u8; 20];
     let k = io::decimal(n as u64, &mut text);
     put(out, at, &text[..k])

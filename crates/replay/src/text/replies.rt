@@ -9,13 +9,13 @@ use record::Event;
 use record::GroupEvent;
 use record::Lead;
 
-pub fn put_refusal(out: &mut Buffer, at: usize, refusal: u32) -> usize {
+pub(crate) fn put_refusal(out: &mut Buffer, at: usize, refusal: u32) -> usize {
     let a = put(out, at, b"refused ");
     let b = put_number(out, a, refusal);
     put_byte(out, b, b'\n')
 }
 
-pub fn put_verdict(out: &mut Buffer, at: usize, verdict: Verdict) -> usize {
+pub(crate) fn put_verdict(out: &mut Buffer, at: usize, verdict: Verdict) -> usize {
     match verdict {
         Verdict::Free => put(out, at, b"free\n"),
         Verdict::Within => put(out, at, b"within\n"),
@@ -24,7 +24,7 @@ pub fn put_verdict(out: &mut Buffer, at: usize, verdict: Verdict) -> usize {
     }
 }
 
-pub fn put_renewed(out: &mut Buffer, at: usize, renewed: [bool; 8]) -> usize {
+pub(crate) fn put_renewed(out: &mut Buffer, at: usize, renewed: [bool; 8]) -> usize {
     let mut end = put(out, at, b"opened");
     for p in 0..8usize {
         end = put_byte(out, end, b' ');
@@ -59,7 +59,7 @@ fn put_event(out: &mut Buffer, at: usize, event: Event) -> usize {
     }
 }
 
-pub fn put_events(out: &mut Buffer, at: usize, events: [GroupEvent; 6]) -> usize {
+pub(crate) fn put_events(out: &mut Buffer, at: usize, events: [GroupEvent; 6]) -> usize {
     let mut end = put(out, at, b"ended");
     for g in 0..6usize {
         let e = events[g];

@@ -12,8 +12,8 @@ use crate::text::output::put_number;
 use book::Book;
 use record::Day;
 
-fn put_open(out: &mut Buffer, at: usize, trading: bool) -> usize {
-    if trading {
+fn put_open(out: &mut Buffer, at: usize, is_open: bool) -> usize {
+    if is_open {
         return put(out, at, b"book open=1");
     }
     put(out, at, b"book open=0")
@@ -31,8 +31,8 @@ fn put_date(out: &mut Buffer, at: usize, day: Day) -> usize {
     put_number(out, e, day.day)
 }
 
-fn put_left(out: &mut Buffer, at: usize, trading: bool, left: u32) -> usize {
-    if trading {
+fn put_left(out: &mut Buffer, at: usize, is_open: bool, left: u32) -> usize {
+    if is_open {
         let a = put(out, at, b" left=");
         return put_number(out, a, left);
     }
@@ -67,11 +67,11 @@ fn put_days(out: &mut Buffer, at: usize, b: Book) -> usize {
     put_sheets(out, e, last)
 }
 
-pub fn put_book(out: &mut Buffer, at: usize, b: Book) -> usize {
+pub(crate) fn put_book(out: &mut Buffer, at: usize, b: Book) -> usize {
     let day = b.day;
-    let c = put_open(out, at, b.trading);
+    let c = put_open(out, at, b.is_open);
     let d = put_date(out, c, day);
-    let e = put_left(out, d, b.trading, day.left);
+    let e = put_left(out, d, b.is_open, day.left);
     let f = put_groups(out, e, b);
     let g = put_products(out, f, b);
     let h = put_days(out, g, b);

@@ -60,7 +60,7 @@ loop-again c =
         today = blank .today;
         last = blank .last;
         day = blank .day;
-        trading = blank .trading;
+        isOpen = blank .isOpen;
       },
       filled-next 8 noLimit _ _ (k .loop .p) _ (k .loop .inv .2) (search needs) v (rw (c .expanded .ensures)),
     )

@@ -1,11 +1,11 @@
 use borrow.Author.Needs.{needs}
 use Rattle.record.specs.Opening.{isTrueDay}
-use Rattle.grain.proofs.Calendars.{no-date, dated}
+use Rattle.grain.proofs.FactsOfDates.{no-date, dated}
 use Rattle.book.proofs.soundness.is_true_day.Statement.{statement}
 use Rattle.book.proofs.soundness.is_true_day.Tie as tie
 
-calendar-of-requires : tie.Need-calendar-of-requires
-calendar-of-requires c κs = search needs
+date-facts-requires : tie.Need-date-facts-requires
+date-facts-requires c κs = search needs
 
 enum-known-remaining : tie.Need-enum-known-remaining
 enum-known-remaining c = search needs
@@ -18,16 +18,16 @@ unfolding isTrueDay
 returns c =
     let k = c .before .before in
     let d = k .before .args .d in
-    rw (no-date (d .year) (d .month) (d .day) (rw (c .enum-told .given .1) at (k .calendar-of .ensures)))
+    rw (no-date (d .year) (d .month) (d .day) (rw (c .enum-told .given .1) at (k .date-facts .ensures)))
 
 returns-2 : tie.Need-returns-2
 unfolding isTrueDay
 returns-2 c =
     let k = c .before .before .before .before in
     let d = k .before .args .d in
-    let is = dated (d .year) (d .month) (d .day) _ _ _ (rw (c .before .before .remaining .given .1) at (k .calendar-of .ensures)) in
+    let is = dated (d .year) (d .month) (d .day) _ _ _ (rw (c .before .before .remaining .given .1) at (k .date-facts .ensures)) in
     rw (is .date, is .remains)
 
 pub is-true-day-spec : {M : Type 1} → statement M
 is-true-day-spec =
-    tie.close (tie.spec calendar-of-requires enum-known-remaining enum-told returns returns-2)
+    tie.close (tie.spec date-facts-requires enum-known-remaining enum-told returns returns-2)

@@ -17,7 +17,7 @@ is-renewed-requires : tie.Need-is-renewed-requires
 is-renewed-requires c κs = search needs
 
 -- past the first test
-renewed : (c : tie.Else1) → isRenewedBy (c .before .before .args .next) (windowOf (c .before .before .args .w) (c .before .before .args .p)) ≡ true
+renewed : (c : tie.Else1) → isRenewedBy (c .before .before .args .renews) (windowOf (c .before .before .args .w) (c .before .before .args .p)) ≡ true
 renewed c = sym (c .before .is-renewed .ensures) ∙ not-false _ (c .if1 .left)
 
 -- the window is full, and so the answer is its limits
@@ -30,7 +30,7 @@ limits-are c =
     let window = windowOf (s .args .w) (s .args .p) in
     season-limits-same _ _
     (c .season-limits .ensures
-    ∙ full-limits (s .args .p) window (s .pre .0) (full-window (s .args .next) window (renewed (c .before))) (s .pre .1))
+    ∙ full-limits (s .args .p) window (s .pre .0) (full-window (s .args .renews) window (renewed (c .before))) (s .pre .1))
 
 returns : tie.Need-returns
 returns c =

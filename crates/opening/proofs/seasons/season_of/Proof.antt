@@ -1,13 +1,13 @@
 use borrow.Author.Needs.{needs}
 use mathlib.Core.Path.{_≡_, sym, _∙_}
 use mathlib.Core.Bool.{Bool, true, false}
-use Rattle.grain.proofs.Calendars.{no-date, dated}
+use Rattle.grain.proofs.FactsOfDates.{no-date, dated}
 use Rattle.book.proofs.TradeDates.{true-date}
 use Rattle.opening.proofs.seasons.season_of.Statement.{statement}
 use Rattle.opening.proofs.seasons.season_of.Tie as tie
 
-calendar-of-requires : tie.Need-calendar-of-requires
-calendar-of-requires c κs = search needs
+date-facts-requires : tie.Need-date-facts-requires
+date-facts-requires c κs = search needs
 
 enum-known-season : tie.Need-enum-known-season
 enum-known-season c = search needs
@@ -19,7 +19,7 @@ returns : tie.Need-returns
 returns c =
     let k = c .before .before in
     let d = k .before .args .d in
-    let no = no-date (d .year) (d .month) (d .day) (rw (c .enum-told .given .1) at (k .calendar-of .ensures)) in
+    let no = no-date (d .year) (d .month) (d .day) (rw (c .enum-told .given .1) at (k .date-facts .ensures)) in
     let z : _≡_ {A = Bool} false true = sym no ∙ true-date d (k .before .pre) in
     cc
 
@@ -27,8 +27,8 @@ returns-2 : tie.Need-returns-2
 returns-2 c =
     let k = c .before .before .before in
     let d = k .before .args .d in
-    dated (d .year) (d .month) (d .day) _ _ _ (rw (c .before .season .given .1) at (k .calendar-of .ensures)) .counts
+    dated (d .year) (d .month) (d .day) _ _ _ (rw (c .before .season .given .1) at (k .date-facts .ensures)) .counts
 
 pub season-of-spec : {M : Type 1} → statement M
 season-of-spec =
-    tie.close (tie.spec calendar-of-requires enum-known-season enum-told returns returns-2)
+    tie.close (tie.spec date-facts-requires enum-known-season enum-told returns returns-2)

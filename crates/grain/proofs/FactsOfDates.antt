@@ -4,11 +4,11 @@ use mathlib.Core.Path.{_≡_, refl}
 use mathlib.Core.Bool.{Bool, true, false, not, cond}
 use mathlib.Core.List.{[], _∷_}
 use Rattle.grain.specs.Dates.{isDate, contractMonth, seasonNumber, daysRemaining}
-use Rattle.grain.specs.Margin.{Outcome, refused, gives, calendarAs, calendarOf}
-use Rattle.grain.specs.declared.margin.Calendar.the-variants.{On, NoSuchDate}
+use Rattle.grain.specs.Margin.{Outcome, refused, gives, dateFactsAs, dateFacts}
+use Rattle.grain.specs.declared.margin.DateFacts.the-variants.{On, NoSuchDate}
 
 -- the parts of the answer
-pub record Dated (year month day at season remaining : ℕ) : Type 0 where
+pub record Facts (year month day at season remaining : ℕ) : Type 0 where
   pub date : isDate year month day ≡ true
   pub falls : at ≡ contractMonth year month
   pub counts : season ≡ seasonNumber (contractMonth year month)
@@ -19,22 +19,22 @@ module _ (year month day : ℕ) where
   values =
       gives (contractMonth year month ∷ seasonNumber (contractMonth year month) ∷ daysRemaining year month day ∷ [])
 
-  pub no-date : calendarAs NoSuchDate ≡ calendarOf year month day → isDate year month day ≡ false
-  unfolding calendarOf
+  pub no-date : dateFactsAs NoSuchDate ≡ dateFacts year month day → isDate year month day ≡ false
+  unfolding dateFacts
   no-date e = go (isDate year month day) e
     where
       go : (b : Bool) → refused 3 ≡ cond (not b) (refused 3) values → b ≡ false
       go true e = let z : refused 3 ≡ values = e in cc
       go false e = refl
 
-  pub dated : (at season remaining : ℕ) → calendarAs (On at season remaining) ≡ calendarOf year month day
-      → Dated year month day at season remaining
-  unfolding calendarOf
+  pub dated : (at season remaining : ℕ) → dateFactsAs (On at season remaining) ≡ dateFacts year month day
+      → Facts year month day at season remaining
+  unfolding dateFacts
   dated at season remaining e = go (isDate year month day) refl e
     where
       go : (b : Bool) → isDate year month day ≡ b
           → gives (at ∷ season ∷ remaining ∷ []) ≡ cond (not b) (refused 3) values
-          → Dated year month day at season remaining
+          → Facts year month day at season remaining
       go true t e =
           let z : gives (at ∷ season ∷ remaining ∷ []) ≡ values = e in
           record { date = t; falls = cc; counts = cc; remains = cc }

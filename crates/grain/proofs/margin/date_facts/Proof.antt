@@ -3,12 +3,12 @@ use native.Mathlib.Omega.{arith}
 use mathlib.Core.Path.{sym, _∙_}
 use borrow.Author.Tests.{not-true, not-false}
 use Rattle.grain.specs.Dates.{contractMonth, seasonNumber, daysRemaining}
-use Rattle.grain.specs.Margin.{calendarOf}
+use Rattle.grain.specs.Margin.{dateFacts}
 use Rattle.grain.proofs.ValidDates.{ValidDate, valid-date}
-use Rattle.grain.proofs.margin.calendar_of.Statement.{statement}
-use Rattle.grain.proofs.margin.calendar_of.Tie as tie
-use Rattle.grain.proofs.margin.calendar_of.Reads as reads
-use Rattle.grain.proofs.margin.calendar_of.Lts as lts
+use Rattle.grain.proofs.margin.date_facts.Statement.{statement}
+use Rattle.grain.proofs.margin.date_facts.Tie as tie
+use Rattle.grain.proofs.margin.date_facts.Reads as reads
+use Rattle.grain.proofs.margin.date_facts.Lts as lts
 use Rattle.grain.proofs.dates.is_date.Reads as is-date-reads
 use Rattle.grain.proofs.dates.month_length.Reads as month-length-reads
 
@@ -20,7 +20,7 @@ is-date-requires : tie.Need-is-date-requires
 is-date-requires c κs = search needs
 
 returns : tie.Need-returns
-unfolding calendarOf
+unfolding dateFacts
 returns c = simp (sym (c .before .is-date .ensures) ∙ not-true _ (c .if1 .taken))
 
 mul-at : tie.Need-mul-at
@@ -42,12 +42,12 @@ sub-t10 : tie.Need-sub-t10
 sub-t10 c = rw (c .month-length .ensures) (valid (c .before) .lastDay)
 
 returns-2 : tie.Need-returns-2
-unfolding calendarOf contractMonth seasonNumber daysRemaining
+unfolding dateFacts contractMonth seasonNumber daysRemaining
 returns-2 c =
     simp (sym (c .before .before .is-date .ensures) ∙ not-false _ (c .before .if1 .left), c .month-length .ensures)
 
-pub calendar-of-spec : {M : Type 1} → statement M
-calendar-of-spec =
+pub date-facts-spec : {M : Type 1} → statement M
+date-facts-spec =
     tie.close
     (tie.spec
     is-date-requires
