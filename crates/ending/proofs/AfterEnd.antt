@@ -27,7 +27,7 @@ use Rattle.book.specs.Book.{limitIn, standingIn, todayIn, levelOf, viewProduct,
 use Rattle.book.specs.Soundness.{six}
 use Rattle.book.proofs.SoundFacts.{day-is}
 use Rattle.book.proofs.Views.{next-view}
-use Rattle.lead.specs.Lead.{movesOf}
+use Rattle.ending.specs.Lead.{movesOf}
 use Rattle.record.specs.declared.GroupEvent.{GroupEvent}
 use Rattle.ending.specs.Ends.{quiet, eventsOf, eventIn, standingOfEnd, limitAfter, limitOfEnd, windowOfEnd}
 use Rattle.ending.proofs.SixGroups.{six-at}

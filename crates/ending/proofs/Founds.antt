@@ -7,10 +7,10 @@ use Rattle.grain.specs.Lists.{any}
 use Rattle.record.specs.declared.Lead.{Lead}
 use Rattle.record.specs.Choices.{keep, isSome}
 use Rattle.record.specs.End.{Move, leading}
-use Rattle.lead.specs.declared.Found.{Found}
-use Rattle.lead.specs.declared.Found.the-variants.{At, Nobody}
-use Rattle.lead.specs.Lead.{foundAs}
-use Rattle.lead.proofs.Leads.{leading-any}
+use Rattle.ending.specs.declared.lead.Found.{Found}
+use Rattle.ending.specs.declared.lead.Found.the-variants.{At, Nobody}
+use Rattle.ending.specs.Lead.{foundAs}
+use Rattle.ending.proofs.Leads.{leading-any}
 
 module _ (o : Option Lead) (r : Found) (e : r ≡ foundAs o) where
   pub nobody : r ≡ Nobody → o ≡ none

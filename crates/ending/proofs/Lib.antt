@@ -1,3 +1,10 @@
+pub mod Earlier
+pub mod Leads
+pub mod Members
+pub mod MovesIn
+pub mod Nexts
+pub mod Products
+pub mod Searched
 pub mod Months
 pub mod Founds
 pub mod SixGroups

@@ -11,7 +11,7 @@ use Rattle.grain.proofs.Below.{below}
 use Rattle.record.specs.State.{groupTable}
 use Rattle.record.specs.History.{productsOf}
 use Rattle.book.specs.Soundness.{six}
-use Rattle.lead.specs.Lead.{productsFrom}
+use Rattle.ending.specs.Lead.{productsFrom}
 
 pub each-group : (P : ℕ → Type 0) → P 0 → P 1 → P 2 → P 3 → P 4 → P 5 → (g : ℕ) → g < 6 → P g
 each-group P a b c d e f zero l = a

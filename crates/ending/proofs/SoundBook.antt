@@ -5,7 +5,7 @@ use Rattle.record.specs.Sound.{isSound}
 use Rattle.book.specs.declared.Book.{Book}
 use Rattle.book.specs.Book.{view}
 use Rattle.book.proofs.SoundFacts.{today-fits, last-fits, today-ascending}
-use Rattle.lead.specs.Lead.{Readable}
+use Rattle.ending.specs.Lead.{Readable}
 
 module _ (b : Book) (sound : isSound (view b) ≡ true) where
   pub readable : Readable b

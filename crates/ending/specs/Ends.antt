@@ -23,7 +23,7 @@ use Rattle.book.specs.declared.Standing.{Standing}
 use Rattle.book.specs.declared.Book.{Book}
 use Rattle.book.specs.Book.{noLimit, standingIn, todayIn, levelOf, view}
 use Rattle.book.specs.Calls.{Responds, answerAs}
-use Rattle.lead.specs.Lead.{movesOf}
+use Rattle.ending.specs.Lead.{movesOf}
 use Rattle.record.specs.declared.GroupEvent.{GroupEvent}
 use Rattle.ending.specs.declared.Ended.{Ended}
 use Rattle.ending.specs.declared.collection.Collecting.{Collecting}

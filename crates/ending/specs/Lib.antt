@@ -1,1 +1,3 @@
+pub mod Lead
+pub mod Search
 pub mod Ends

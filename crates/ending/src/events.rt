@@ -9,12 +9,13 @@ ghost use Rattle.record.specs.declared.Event.the-variants.{Held, Reverted};
 ghost use Rattle.record.specs.History.{productsOf};
 ghost use Rattle.book.specs.Book.{standingIn};
 ghost use Rattle.book.specs.Soundness.{six};
-ghost use Rattle.lead.specs.Lead.{meets, foundAs, movesOf, Readable};
+ghost use Rattle.ending.specs.Lead.{meets, foundAs, movesOf, Readable};
 ghost use Rattle.ending.specs.Ends.{eventIn, eventsOf};
+use crate::lead::Condition;
+use crate::lead::Found;
+use crate::lead::leading;
 use book::Book;
 use grain::TradeDate;
-use lead::Condition;
-use lead::Found;
 use record::Event;
 use record::GroupEvent;
 
@@ -27,7 +28,7 @@ pub(crate) fn leading_in(b: Book, date: TradeDate, condition: Condition, g: usiz
     requires { ⌜ (g < 6) × Readable b ⌝ }
     ensures { λ r. ⌜ r ≡ foundAs (leading (keep (meets condition) (movesOf b date (productsOf g)))) ⌝ }
 {
-    lead::leading(b, date, condition, FIRSTS[g], ENDS[g])
+    leading(b, date, condition, FIRSTS[g], ENDS[g])
 }
 
 fn initial_event(b: Book, date: TradeDate, g: usize) -> Event

@@ -17,6 +17,7 @@ use sheets::Sheet;
 
 mod collection;
 mod events;
+mod lead;
 mod limits;
 mod refusals;
 mod standings;

@@ -6,14 +6,14 @@ ghost use Rattle.grain.specs.Lists.{any};
 ghost use Rattle.record.specs.End.{isAtExpanded};
 ghost use Rattle.record.specs.History.{productsOf};
 ghost use Rattle.book.specs.Book.{noStanding};
-ghost use Rattle.lead.specs.Lead.{movesOf, Readable};
+ghost use Rattle.ending.specs.Lead.{movesOf, Readable};
 ghost use Rattle.ending.specs.Ends.{standingAfter, standingOfEnd};
 use crate::events::leading_in;
+use crate::lead::Condition;
+use crate::lead::Found;
 use book::Book;
 use book::Standing;
 use grain::TradeDate;
-use lead::Condition;
-use lead::Found;
 use record::Event;
 use record::GroupEvent;
 

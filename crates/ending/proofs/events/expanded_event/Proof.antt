@@ -3,7 +3,7 @@ use borrow.Author.Tests.{not-true, not-false}
 use Rattle.record.specs.End.{leading, eventOf, isAtExpanded}
 use Rattle.record.specs.Choices.{keep}
 use Rattle.record.specs.History.{productsOf}
-use Rattle.lead.specs.Lead.{movesOf}
+use Rattle.ending.specs.Lead.{movesOf}
 use Rattle.ending.proofs.Founds.{nobody, found-at}
 use Rattle.ending.proofs.events.expanded_event.Statement.{statement}
 use Rattle.ending.proofs.events.expanded_event.Tie as tie

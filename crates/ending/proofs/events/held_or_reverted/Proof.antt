@@ -2,7 +2,7 @@ use borrow.Author.Needs.{needs}
 use Rattle.record.specs.End.{leading, isHolding}
 use Rattle.record.specs.Choices.{keep}
 use Rattle.record.specs.History.{productsOf}
-use Rattle.lead.specs.Lead.{movesOf}
+use Rattle.ending.specs.Lead.{movesOf}
 use Rattle.ending.proofs.Founds.{nobody, found-at}
 use Rattle.ending.proofs.events.held_or_reverted.Statement.{statement}
 use Rattle.ending.proofs.events.held_or_reverted.Tie as tie

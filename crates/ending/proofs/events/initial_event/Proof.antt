@@ -2,7 +2,7 @@ use borrow.Author.Needs.{needs}
 use Rattle.record.specs.End.{leading, eventOf, isTrigger}
 use Rattle.record.specs.Choices.{keep}
 use Rattle.record.specs.History.{productsOf}
-use Rattle.lead.specs.Lead.{movesOf}
+use Rattle.ending.specs.Lead.{movesOf}
 use Rattle.ending.proofs.Founds.{nobody, found-at}
 use Rattle.ending.proofs.events.initial_event.Statement.{statement}
 use Rattle.ending.proofs.events.initial_event.Tie as tie

@@ -1,7 +1,7 @@
 use borrow.Author.Needs.{needs}
 use Rattle.record.specs.End.{isAtExpanded}
 use Rattle.record.specs.History.{productsOf}
-use Rattle.lead.specs.Lead.{movesOf}
+use Rattle.ending.specs.Lead.{movesOf}
 use Rattle.ending.proofs.Founds.{nobody-moved, one-moved}
 use Rattle.ending.proofs.standings.is_at_expanded.Statement.{statement}
 use Rattle.ending.proofs.standings.is_at_expanded.Tie as tie

@@ -1,0 +1,44 @@
+-- The leading contract of a group's products, for the condition of an event.
+use Prim.Native.Nat.{ℕ, zero, suc, _<_, _≤_}
+use mathlib.Core.Path.{_≡_}
+use mathlib.Core.Bool.{Bool, true}
+use mathlib.Core.List.{List, [], _∷_, map}
+use mathlib.Core.Option.{Option, some, none}
+use Rattle.grain.specs.Lists.{isAscending}
+use Rattle.grain.specs.declared.spot.TradeDate.{TradeDate}
+use Rattle.grain.specs.Spot.{isSpot}
+use Rattle.record.specs.declared.Lead.{Lead}
+use Rattle.record.specs.Choices.{concatMap}
+use Rattle.record.specs.End.{Move, productMoves, isTrigger, isHolding, isAtExpanded}
+use Rattle.sheets.specs.Sheets.{contractsOf, monthsOf}
+use Rattle.book.specs.declared.Book.{Book}
+use Rattle.book.specs.Book.{todayIn, lastIn, viewProduct}
+use Rattle.ending.specs.declared.lead.Condition.{Condition}
+use Rattle.ending.specs.declared.lead.Condition.the-variants.{Trigger, Holding, AtExpanded}
+use Rattle.ending.specs.declared.lead.Found.{Found}
+use Rattle.ending.specs.declared.lead.Found.the-variants.{At, Nobody}
+
+abbrev pub meets : Condition → Move → Bool
+meets Trigger m = isTrigger m
+meets Holding m = isHolding m
+meets AtExpanded m = isAtExpanded m
+
+-- what the search answers for a leading contract or none
+abbrev pub foundAs : Option Lead → Found
+foundAs none = Nobody
+foundAs (some l) = At l
+
+-- n products from number p on: the products of a group stand together
+abbrev pub productsFrom : ℕ → ℕ → List ℕ
+productsFrom p zero = []
+productsFrom p (suc n) = p ∷ productsFrom (suc p) n
+
+-- the moves of some products of a book
+unfoldable pub movesOf : Book → TradeDate → List ℕ → List Move
+movesOf b date ps = concatMap (productMoves (isSpot date)) (map (viewProduct b) ps)
+
+-- what the search asks of a book's sheets, which every sound book has
+pub record Readable (b : Book) : Type 0 where
+  pub today : (p : ℕ) → p < 8 → todayIn b p .len ≤ 16
+  pub last : (p : ℕ) → p < 8 → lastIn b p .len ≤ 16
+  pub ascending : (p : ℕ) → p < 8 → isAscending (monthsOf (contractsOf (todayIn b p))) ≡ true

@@ -1,0 +1,61 @@
+// The leading contract of a group: of those that meet an event's condition, the nearest month, then the lowest product number.
+ghost use mathlib.Core.Path.{_≡_};
+ghost use Prim.Native.Nat.{_≤_, _-_};
+ghost use Rattle.record.specs.Choices.{keep};
+ghost use Rattle.record.specs.End.{leading as leadOf};
+ghost use Rattle.ending.specs.Lead.{meets, foundAs, productsFrom, movesOf, Readable};
+use book::Book;
+use grain::TradeDate;
+use months::next_in;
+use moves::meets_in;
+use record::Lead;
+
+mod months;
+mod moves;
+
+// What a move has to be for an event.
+pub enum Condition {
+    // Exactly I, within the first N.
+    Trigger,
+    // I or more.
+    Holding,
+    // Exactly E.
+    AtExpanded,
+}
+
+pub enum Found {
+    At(Lead),
+    Nobody,
+}
+
+// The leading contract of products lo to hi, hi not among them.
+pub(crate) fn leading(b: Book, date: TradeDate, condition: Condition, lo: usize, hi: usize) -> Found
+    requires { ⌜ (lo ≤ hi) × (hi ≤ 8) × Readable b ⌝ }
+    ensures { λ r. ⌜ r ≡ foundAs (leadOf (keep (meets condition) (movesOf b date (productsFrom lo (hi - lo))))) ⌝ }
+{
+    // In the date's month every contract is spot: the first turn only finds the next month.
+    let mut month = date.month;
+    let mut found = Found::Nobody;
+    'search: loop {
+        // The nearest month after this one; 0 is none.
+        let mut next: u32 = 0;
+        for p in lo..hi {
+            let t = b.today[p];
+            let l = b.last[p];
+            let limit = b.limits[p];
+            if meets_in(condition, p as u32, limit, t, l, month, date) {
+                found = Found::At(Lead {
+                    month,
+                    product: p as u32,
+                });
+                break 'search;
+            }
+            next = next_in(t, month, next);
+        }
+        if next == 0 {
+            break 'search;
+        }
+        month = next;
+    }
+    found
+}
