@@ -39,7 +39,7 @@ areAllMissing sheets = every (λ p. not (hasSheet sheets p)) eight
 
 -- the last ended sheets are all there, with a date, or none is
 abbrev pub areLastSound : Day → List Sheet → Bool
-areLastSound d last = (isSome (openedOf d) and areAllIn last) || areAllMissing last
+areLastSound d lasts = (isSome (openedOf d) and areAllIn lasts) || areAllMissing lasts
 
 -- a mark only on an expanded group
 abbrev pub isMarkSound : Standing → Bool

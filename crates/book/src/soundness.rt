@@ -164,26 +164,26 @@ pub fn are_all_in(sheets: [Sheet; 8]) -> bool
 }
 
 // No sheet in while no day is open.
-fn is_phase_sound(is_open: bool, today: [Sheet; 8]) -> bool
-    ensures { λ r. ⌜ r ≡ («is_open» || areAllMissing today) ⌝ }
+fn is_phase_sound(is_open: bool, todays: [Sheet; 8]) -> bool
+    ensures { λ r. ⌜ r ≡ («is_open» || areAllMissing todays) ⌝ }
 {
     if is_open {
         return true;
     }
-    are_all_missing(today)
+    are_all_missing(todays)
 }
 
 // The last ended sheets are all there, with a date, or none is.
-fn is_last_sound(d: Day, last: [Sheet; 8]) -> bool
-    ensures { λ r. ⌜ r ≡ areLastSound d last ⌝ }
+fn are_last_sound(d: Day, lasts: [Sheet; 8]) -> bool
+    ensures { λ r. ⌜ r ≡ areLastSound d lasts ⌝ }
 {
-    if are_all_missing(last) {
+    if are_all_missing(lasts) {
         return true;
     }
     if is_no_day(d) {
         return false;
     }
-    are_all_in(last)
+    are_all_in(lasts)
 }
 
 impl Book {
@@ -205,11 +205,11 @@ impl Book {
         if !are_windows_sound(w) {
             return false;
         }
-        let today = self.today;
-        if !is_phase_sound(self.is_open, today) {
+        let todays = self.today;
+        if !is_phase_sound(self.is_open, todays) {
             return false;
         }
-        let last = self.last;
-        is_last_sound(day, last)
+        let lasts = self.last;
+        are_last_sound(day, lasts)
     }
 }

@@ -90,10 +90,10 @@ pub(crate) fn windows_after(b: Book, date: TradeDate) -> Windows
     ensures { λ r. ⌜ ((p : ℕ) → p < 8 → windowOf r p ≡ windowOfEnd b p) ⌝ }
 {
     let day = b.day;
-    let sheets = b.today;
+    let todays = b.today;
     let mut w = b.windows;
     for p in 0..8usize {
-        let s = sheets[p];
+        let s = todays[p];
         w = window_after(w, p, collected_month(day, date.month, p), s);
     }
     w

@@ -77,8 +77,8 @@ fn accepted(b: Book, date: TradeDate) -> Ended
     let raised = limits_after(events, limits);
     next.limits = raised;
     next.windows = windows_after(b, date);
-    let sheets = b.today;
-    next.last = sheets;
+    let todays = b.today;
+    next.last = todays;
     let none = Sheet::none();
     let empty = [none; 8];
     next.today = empty;

@@ -18,8 +18,8 @@ pub(crate) fn refusal_of(b: Book) -> u32
     if !b.is_open {
         return WRONG_PHASE;
     }
-    let today = b.today;
-    if !book::are_all_in(today) {
+    let todays = b.today;
+    if !book::are_all_in(todays) {
         return SHEET_OUTSTANDING;
     }
     0

@@ -61,9 +61,9 @@ fn with_sheet(b: Book, p: usize, s: Sheet) -> Book
     requires { ⌜ p < 8 ⌝ }
     ensures { λ r. ⌜ ((ms ss : List ℕ) → sheetIn s ≡ some (contracts ms ss) → view r ≡ nextState (view b) (call p ms ss)) ⌝ }
 {
-    let mut today = b.today;
-    today[p] = s;
+    let mut todays = b.today;
+    todays[p] = s;
     let mut next = b;
-    next.today = today;
+    next.today = todays;
     next
 }

@@ -16,8 +16,8 @@ use Rattle.book.specs.Book.{isNoDay, view}
 use Rattle.book.specs.Calls.{Responds, answerAs}
 use Rattle.opening.specs.declared.Opened.{Opened}
 
-abbrev pub dated : ℕ → ℕ → ℕ → ℕ → Day
-dated year month day left = record { year = year; month = month; day = day; left = left }
+abbrev pub dayOn : ℕ → ℕ → ℕ → ℕ → Day
+dayOn year month day left = record { year = year; month = month; day = day; left = left }
 
 abbrev pub openedAs : Opened → Answer
 openedAs r = answerAs (r .refusal) (opened (r .renewed))

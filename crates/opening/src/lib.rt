@@ -5,7 +5,7 @@ ghost use Rattle.record.specs.Opening.{isTrueDay};
 ghost use Rattle.record.specs.Record.{answer, next as nextState, opening as call, opened as answered};
 ghost use Rattle.record.specs.Sound.{isSound};
 ghost use Rattle.book.specs.Book.{view};
-ghost use Rattle.opening.specs.Opens.{dated, Opens};
+ghost use Rattle.opening.specs.Opens.{dayOn, Opens};
 use book::Book;
 use record::Day;
 
@@ -30,7 +30,7 @@ pub struct Opened {
 
 // left: the business days of that month after this day.
 pub fn opening(b: Book, year: u32, month: u32, day: u32, left: u32) -> Opened
-    ensures { λ r. ⌜ Opens b (dated year month day left) r ⌝ }
+    ensures { λ r. ⌜ Opens b (dayOn year month day left) r ⌝ }
 {
     let d = Day {
         year,

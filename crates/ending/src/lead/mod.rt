@@ -40,17 +40,17 @@ pub(crate) fn leading(b: Book, date: TradeDate, condition: Condition, lo: usize,
         // The nearest month after this one; 0 is none.
         let mut next: u32 = 0;
         for p in lo..hi {
-            let t = b.today[p];
-            let l = b.last[p];
+            let current = b.today[p];
+            let last = b.last[p];
             let limit = b.limits[p];
-            if meets_in(condition, p as u32, limit, t, l, month, date) {
+            if meets_in(condition, p as u32, limit, current, last, month, date) {
                 found = Found::At(Lead {
                     month,
                     product: p as u32,
                 });
                 break 'search;
             }
-            next = next_in(t, month, next);
+            next = next_in(current, month, next);
         }
         if next == 0 {
             break 'search;

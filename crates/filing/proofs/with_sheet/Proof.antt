@@ -7,11 +7,11 @@ use Rattle.filing.proofs.Filings.{filed-view}
 use Rattle.filing.proofs.with_sheet.Statement.{statement}
 use Rattle.filing.proofs.with_sheet.Tie as tie
 
-mul-today : tie.Need-mul-today
-mul-today c = search needs
+mul-todays : tie.Need-mul-todays
+mul-todays c = search needs
 
-array-set-from-today : tie.Need-array-set-from-today
-array-set-from-today c = search needs
+array-set-from-todays : tie.Need-array-set-from-todays
+array-set-from-todays c = search needs
 
 returns : tie.Need-returns
 returns c =
@@ -21,4 +21,4 @@ returns c =
     λ ms ss e. filed-view (a .b) (a .p) (a .s) ms ss place e
 
 pub with-sheet-spec : {M : Type 1} → statement M
-with-sheet-spec = tie.close (tie.spec mul-today array-set-from-today returns)
+with-sheet-spec = tie.close (tie.spec mul-todays array-set-from-todays returns)

@@ -61,8 +61,8 @@ returns-5 c =
     rw
     (sound-tests (h .before .before .before .args .self), sym (h .before .is-sound-date .ensures) ∙ not-false _ (h .if1 .left), sym (i .before .are-marks-sound .ensures) ∙ not-false _ (i .if2 .left), sym (j .before .are-products-sound .ensures) ∙ not-false _ (j .if3 .left), sym (k .before .are-windows-sound .ensures) ∙ not-false _ (k .if4 .left), sym (c .before .is-phase-sound .ensures) ∙ not-true _ (c .if5 .taken))
 
-is-last-sound-requires : tie.Need-is-last-sound-requires
-is-last-sound-requires c κs = search needs
+are-last-sound-requires : tie.Need-are-last-sound-requires
+are-last-sound-requires c κs = search needs
 
 returns-6 : tie.Need-returns-6
 unfolding _and_
@@ -74,7 +74,7 @@ returns-6 c =
     let h = i .before .before .before in
     rw
     (sound-tests (h .before .before .before .args .self), sym (h .before .is-sound-date .ensures) ∙ not-false _ (h .if1 .left), sym (i .before .are-marks-sound .ensures) ∙ not-false _ (i .if2 .left), sym (j .before .are-products-sound .ensures) ∙ not-false _ (j .if3 .left), sym (k .before .are-windows-sound .ensures) ∙ not-false _ (k .if4 .left), sym (l .before .is-phase-sound .ensures) ∙ not-false _ (l .if5 .left))
-    (c .is-last-sound .ensures)
+    (c .are-last-sound .ensures)
 
 pub is-sound-spec : {M : Type 1} → statement M
 is-sound-spec =
@@ -90,5 +90,5 @@ is-sound-spec =
     returns-4
     is-phase-sound-requires
     returns-5
-    is-last-sound-requires
+    are-last-sound-requires
     returns-6)

@@ -37,17 +37,17 @@ loop-holds : tie.Need-loop-holds Inv-loop μ-loop Inv-search μ-search
 loop-holds c =
     (omega arith, omega arith, c .search .inv .0, λ q k l. absurd (omega arith), refl, omega arith)
 
-mul-t : tie.Need-mul-t Inv-loop μ-loop Inv-search μ-search
-mul-t c = search needs
+mul-current : tie.Need-mul-current Inv-loop μ-loop Inv-search μ-search
+mul-current c = search needs
 
-element-copy-out-t : tie.Need-element-copy-out-t Inv-loop μ-loop Inv-search μ-search
-element-copy-out-t c = search needs
+element-copy-out-current : tie.Need-element-copy-out-current Inv-loop μ-loop Inv-search μ-search
+element-copy-out-current c = search needs
 
-mul-l : tie.Need-mul-l Inv-loop μ-loop Inv-search μ-search
-mul-l c = search needs
+mul-last : tie.Need-mul-last Inv-loop μ-loop Inv-search μ-search
+mul-last c = search needs
 
-element-copy-out-l : tie.Need-element-copy-out-l Inv-loop μ-loop Inv-search μ-search
-element-copy-out-l c = search needs
+element-copy-out-last : tie.Need-element-copy-out-last Inv-loop μ-loop Inv-search μ-search
+element-copy-out-last c = search needs
 
 mul-limit : tie.Need-mul-limit Inv-loop μ-loop Inv-search μ-search
 mul-limit c = search needs
@@ -156,10 +156,10 @@ leading-spec =
     μ-search
     search-holds
     loop-holds
-    mul-t
-    element-copy-out-t
-    mul-l
-    element-copy-out-l
+    mul-current
+    element-copy-out-current
+    mul-last
+    element-copy-out-last
     mul-limit
     element-copy-out-limit
     cast-meets-in

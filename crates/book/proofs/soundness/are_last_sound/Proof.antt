@@ -11,8 +11,8 @@ use Rattle.sheets.specs.Sheets.{sheetIn}
 use Rattle.book.specs.Book.{noSheet, openedOf}
 use Rattle.book.specs.Soundness.{eight}
 use Rattle.book.proofs.Either.{second-holds, second-fails}
-use Rattle.book.proofs.soundness.is_last_sound.Statement.{statement}
-use Rattle.book.proofs.soundness.is_last_sound.Tie as tie
+use Rattle.book.proofs.soundness.are_last_sound.Statement.{statement}
+use Rattle.book.proofs.soundness.are_last_sound.Tie as tie
 
 -- the last ended sheets are all there, with a date
 abbrev areThere : Day → List Sheet → Bool
@@ -24,7 +24,7 @@ are-all-missing-requires c κs = search needs
 returns : tie.Need-returns
 returns c =
     let a = c .before .before .args in
-    sym (second-holds (areThere (a .d) (a .last)) _ (sym (c .before .are-all-missing .ensures) ∙ c .if1 .taken))
+    sym (second-holds (areThere (a .d) (a .lasts)) _ (sym (c .before .are-all-missing .ensures) ∙ c .if1 .taken))
 
 is-no-day-requires : tie.Need-is-no-day-requires
 is-no-day-requires c κs = search needs
@@ -46,8 +46,8 @@ returns-3 c =
     rw (sym (j .before .is-no-day .ensures) ∙ j .if2 .left)
     (c .are-all-in .ensures ∙ sym (second-fails _ _ (sym (k .before .are-all-missing .ensures) ∙ k .if1 .left)))
 
-pub is-last-sound-spec : {M : Type 1} → statement M
-is-last-sound-spec =
+pub are-last-sound-spec : {M : Type 1} → statement M
+are-last-sound-spec =
     tie.close
     (tie.spec
     are-all-missing-requires
