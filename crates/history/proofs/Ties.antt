@@ -3,7 +3,7 @@ use denote.Ref.{now}
 use Rattle.book.specs.declared.founding.Founding.{Founding}
 use Rattle.book.specs.Founding.{Founds}
 use Rattle.opening.specs.declared.Opened.{Opened}
-use Rattle.opening.specs.Opens.{dated, Opens}
+use Rattle.opening.specs.Opens.{dayOn, Opens}
 use Rattle.filing.specs.declared.Filed.{Filed}
 use Rattle.filing.specs.Files.{Files}
 use Rattle.ending.specs.declared.Ended.{Ended}
@@ -24,7 +24,7 @@ pub found-asks : (κs : contract.Lifetimes.Lfts 0) (a : _) → found.Pre κs a
 found-asks κs a = tt
 
 pub opening-says : (κs : contract.Lifetimes.Lfts 0) (a : _) (r : Opened) (s : _)
-    → opening.Post κs a r s → Opens (a .0) (dated (a .1 .0) (a .1 .1 .0) (a .1 .1 .1 .0) (a .1 .1 .1 .1 .0)) r
+    → opening.Post κs a r s → Opens (a .0) (dayOn (a .1 .0) (a .1 .1 .0) (a .1 .1 .1 .0) (a .1 .1 .1 .1 .0)) r
 opening-says κs a r s q = q
 
 pub opening-asks : (κs : contract.Lifetimes.Lfts 0) (a : _) → opening.Pre κs a
