@@ -6,6 +6,7 @@ pub mod Columns
 pub mod Every
 pub mod Fits
 pub mod MarginCases
+pub mod ProductCases
 pub mod MonthSets
 pub mod OnTick
 pub mod Outcomes
