@@ -1,5 +1,5 @@
 -- The numbers that the soundness test runs over, and what it says of one product and of one group.
--- For the functions inside: what the test promises is the Record's isSound alone.
+-- For the functions inside, but for areAllIn, which the end of a day asks: what the test promises is the Record's isSound alone.
 use Prim.Native.Nat.{ℕ}
 use mathlib.Core.Bool.{Bool, not, _||_}
 use mathlib.Core.List.{List, [], _∷_}

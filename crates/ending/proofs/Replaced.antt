@@ -61,4 +61,4 @@ pub collected-as : (d : Day) (p : ℕ) (s : Sheet) (c : Collecting) (old w r : W
     → Changed w p (windowAfter d p (windowOf old p) (sheetOr (sheetIn s))) r
 unfolding windowAfter
 collected-as d p s c old w r fits e f g =
-    record { changed = g .changed ∙ rw (e, month-in (collectedMonth d p), f, sheet-contracts s ∙ counted s fits); others = g .others }
+    record { changed = g .changed ∙ rw (e, month-in (collectedMonth d p), f, sheet-contracts s ∙ counted s fits); others = g .others; sizes = g .sizes }

@@ -1,6 +1,7 @@
 -- One settlement more in a window with room, and in a full one, whose oldest goes first.
 use Prim.Native.Nat.{ℕ, _+_, _-_, _<_, _≤_}
-use mathlib.Core.Path.{_≡_, _∙_}
+use mathlib.Core.Path.{_≡_, sym, _∙_}
+use mathlib.Core.Bool.{true, false, false≢true}
 use mathlib.Core.List.{List, [], _∷_, _++_}
 use mathlib.Core.Option.{some}
 use native.Mathlib.Omega.{arith}
@@ -9,7 +10,7 @@ use lib.Seq.{drop-append-le}
 use borrow.Author.Tests.{lt-ltb, le-ltb, lt-leb, le-leb}
 use Rattle.record.specs.Window.{collect}
 use Rattle.windows.specs.declared.Windows.{Windows}
-use Rattle.windows.specs.Windows.{sizeOf, windowOf, collectedIn, Changed}
+use Rattle.windows.specs.Windows.{sizeOf, windowOf, canCollect, collectedIn, Changed}
 
 module _ (w : Windows) (p v : ℕ) where
   pub collected-beyond : 8 ≤ p → collectedIn w p v ≡ windowOf w p
@@ -17,6 +18,13 @@ module _ (w : Windows) (p v : ℕ) where
 
   pub collected-damaged : p < 8 → 45 < sizeOf w p → collectedIn w p v ≡ windowOf w p
   collected-damaged l h = rw (lt-ltb p 8 l, lt-leb (sizeOf w p) 45 h)
+
+  can-collect : p < 8 → sizeOf w p ≤ 45 → canCollect w p ≡ true
+  can-collect l h = rw (lt-ltb p 8 l, le-leb (sizeOf w p) 45 h)
+
+  -- a window that can collect is not left as it is
+  pub collects : (r : Windows) → p < 8 → sizeOf w p ≤ 45 → canCollect w p ≡ false → r ≡ w
+  collects r l h e = absurd (false≢true (sym e ∙ can-collect l h))
 
   pub collected-fits : p < 8 → sizeOf w p ≤ 45 → collectedIn w p v ≡ collect (windowOf w p) (some v)
   collected-fits l h = rw (lt-ltb p 8 l, le-leb (sizeOf w p) 45 h)
@@ -34,4 +42,5 @@ pub collect-changes : (w v r : Windows) (p s : ℕ) → length (windowOf w p) �
 collect-changes w v r p s full one two = record {
   changed = two .changed ∙ rw (one .changed, collect-full (windowOf w p) s full);
   others = λ q d. two .others q d ∙ one .others q d;
+  sizes = λ q d. two .sizes q d ∙ one .sizes q d;
 }

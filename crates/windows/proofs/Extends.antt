@@ -4,7 +4,7 @@ use mathlib.Core.Path.{_≡_, _∙_}
 use mathlib.Core.List.{[], _∷_, _++_}
 use native.Mathlib.Omega.{arith}
 use lib.ListN.{length}
-use lib.Seq.{getD-set-same}
+use lib.Seq.{getD-set-same, getD-set-other}
 use Rattle.windows.specs.declared.Windows.{Windows}
 use Rattle.windows.specs.Windows.{sizeOf, windowOf, Changed}
 use Rattle.windows.proofs.Shown.{shown}
@@ -20,4 +20,5 @@ extend-changes w p v long many below room =
     record {
       changed = shown grown p (omega arith) ∙ rw (size, shown w p (omega arith)) (place-adds (w .settlements) (45 * p) n v (omega arith));
       others = λ q d. size-leaves stored p (n + 1) q d ∙ place-leaves w p n v q room d;
+      sizes = λ q d. getD-set-other (w .sizes) p q (n + 1) 0 d;
     }

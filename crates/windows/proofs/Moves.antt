@@ -5,7 +5,7 @@ use mathlib.Core.List.{List}
 use native.Mathlib.Numerals.{add-one}
 use native.Mathlib.Omega.{arith}
 use lib.ListN.{length, getD, take, drop, length-drop, length-set}
-use lib.Seq.{take-suc, take-all, getD-drop, getD-set-same, drop-drop, drop-set-lt}
+use lib.Seq.{take-suc, take-all, getD-drop, getD-set-same, getD-set-other, drop-drop, drop-set-lt}
 use Rattle.windows.specs.declared.Windows.{Windows}
 use Rattle.windows.specs.Windows.{sizeOf, windowOf, Changed}
 use Rattle.windows.proofs.Shown.{shown, shown-length, shown-at}
@@ -60,4 +60,5 @@ module _ (w : Windows) (p : ℕ) (long : length (w .settlements) ≡ 360) (many 
     all-moved = record {
       changed = shown (withSize r p 44) p (omega (arith, moved-size)) ∙ rw (moved-size, m .front) (take-all 44 _ (omega (arith, size)));
       others = λ q d. size-leaves r p 44 q d ∙ m .others q d;
+      sizes = λ q d. getD-set-other (r .sizes) p q 44 0 d ∙ ap (λ (l : List ℕ). getD l q 0) (m .sizes);
     }

@@ -1,8 +1,8 @@
 -- What the windows of a book mean: for each product, the collected settlements within its size.
 use Prim.Native.Nat.{ℕ, _*_}
 use mathlib.Core.Path.{_≡_}
-use mathlib.Core.Bool.{_&&_, cond}
-use mathlib.Core.List.{List}
+use mathlib.Core.Bool.{Bool, false, _&&_, cond}
+use mathlib.Core.List.{List, []}
 use mathlib.Core.Option.{some}
 use lib.Dec.{leb, ltb}
 use lib.ListN.{getD, take, drop, replicate}
@@ -16,11 +16,25 @@ sizeOf w p = getD (w .sizes) p 0
 unfoldable pub windowOf : Windows → ℕ → List ℕ
 windowOf w p = cond (leb (sizeOf w p) 45) (take (sizeOf w p) (drop (45 * p) (w .settlements))) (replicate 46 0)
 
--- one settlement more; the window of a damaged size, or of a number that is no product, stays as it is
-abbrev pub collectedIn : Windows → ℕ → ℕ → List ℕ
-collectedIn w p v = cond (ltb p 8 && leb (sizeOf w p) 45) (collect (windowOf w p) (some v)) (windowOf w p)
+-- a product's window, of a size that is not damaged
+abbrev pub canCollect : Windows → ℕ → Bool
+canCollect w p = ltb p 8 && leb (sizeOf w p) 45
 
--- one product's window is another, and the others are the same
+-- one settlement more, where the window can collect
+abbrev pub collectedIn : Windows → ℕ → ℕ → List ℕ
+collectedIn w p v = cond (canCollect w p) (collect (windowOf w p) (some v)) (windowOf w p)
+
+-- one product's window is another, and the others are the same, damaged sizes too
 pub record Changed (w : Windows) (p : ℕ) (window : List ℕ) (r : Windows) : Type 0 where
   pub changed : windowOf r p ≡ window
   pub others : (q : ℕ) → (q ≡ p → ⊥) → windowOf r q ≡ windowOf w q
+  pub sizes : (q : ℕ) → (q ≡ p → ⊥) → sizeOf r q ≡ sizeOf w q
+
+-- what emptying and collecting promise: a number that is no product, and for collecting a damaged window, leave the very windows
+pub record Empties (w : Windows) (p : ℕ) (r : Windows) : Type 0 where
+  pub changed : Changed w p [] r
+  pub unchanged : ltb p 8 ≡ false → r ≡ w
+
+pub record Collects (w : Windows) (p v : ℕ) (r : Windows) : Type 0 where
+  pub changed : Changed w p (collectedIn w p v) r
+  pub unchanged : canCollect w p ≡ false → r ≡ w

@@ -8,7 +8,7 @@ ghost use lib.ListN.{length, drop};
 ghost use Rattle.grain.specs.Lists.{every};
 ghost use Rattle.grain.specs.Prices.{isOnTick};
 ghost use Rattle.grain.specs.Margin.{seasonLimitsAs, seasonLimits};
-ghost use Rattle.windows.specs.Windows.{sizeOf, windowOf, collectedIn, Changed};
+ghost use Rattle.windows.specs.Windows.{sizeOf, windowOf, Changed, Empties, Collects};
 use grain::SeasonLimits;
 
 pub struct Windows {
@@ -30,7 +30,7 @@ impl Windows {
 
     // A window with no settlement, whatever its size was; what stood in its places is no part of it any more.
     pub fn emptied(self, p: usize) -> Windows
-        ensures { λ r. ⌜ Changed self p [] r ⌝ }
+        ensures { λ r. ⌜ Empties self p r ⌝ }
     {
         if 8 <= p {
             return self;
@@ -68,7 +68,7 @@ impl Windows {
 
     // One settlement more, after which the window has the last 45; one of a damaged size stays as it is.
     pub fn collected(self, p: usize, settlement: u32) -> Windows
-        ensures { λ r. ⌜ Changed self p (collectedIn self p settlement) r ⌝ }
+        ensures { λ r. ⌜ Collects self p settlement r ⌝ }
     {
         if 8 <= p {
             return self;

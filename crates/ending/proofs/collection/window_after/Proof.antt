@@ -16,7 +16,7 @@ enum-told c = search needs
 
 returns : tie.Need-returns
 returns c =
-    rw (c .enum-told .given .1) (record { changed = refl; others = λ q other. refl })
+    rw (c .enum-told .given .1) (record { changed = refl; others = λ q other. refl; sizes = λ q other. refl })
 
 find-requires : tie.Need-find-requires
 find-requires c κs = search needs
@@ -35,7 +35,7 @@ returns-2 c =
     let f = c .before .before .before in
     let m = f .before .before in
     let e = is-none (settlementOn (entriesOf (m .before .before .args .s)) _) (sym (f .find .ensures) ∙ c .before .enum-told2 .given .1) in
-    rw (m .c .given .1, e) (c .emptied .ensures)
+    rw (m .c .given .1, e) (c .emptied .ensures .changed)
 
 collected-requires : tie.Need-collected-requires
 collected-requires c κs = search needs
@@ -46,7 +46,7 @@ returns-3 c =
     let m = f .before .before in
     let a = m .before .before .args in
     let e = is-some (settlementOn (entriesOf (m .before .before .args .s)) _) _ (sym (f .find .ensures) ∙ c .before .before .settlement .given .1) in
-    rw (m .c .given .1, e, ← (collected-fits (a .w) (a .p) (c .before .before .settlement .given .0 .0) (omega arith) (omega arith))) (c .collected .ensures)
+    rw (m .c .given .1, e, ← (collected-fits (a .w) (a .p) (c .before .before .settlement .given .0 .0) (omega arith) (omega arith))) (c .collected .ensures .changed)
 
 pub window-after-spec : {M : Type 1} → statement M
 window-after-spec =
