@@ -1,0 +1,178 @@
+use borrow.Author.Needs.{needs}
+use native.Mathlib.Omega.{arith}
+use Prim.Native.Nat.{ℕ}
+use mathlib.Core.Path.{_≡_, refl, sym, _∙_}
+use mathlib.Core.Bool.{true, false}
+use mathlib.Core.List.{List}
+use lib.ListN.{replicate}
+use borrow.Author.Tests.{not-true, not-false}
+use Rattle.grain.specs.Lists.{_and_, every}
+use Rattle.grain.specs.Products.{floors}
+use Rattle.grain.specs.Amounts.{isFit}
+use Rattle.record.specs.State.{groupTable}
+use Rattle.record.specs.Founding.{isFitStart}
+use Rattle.book.specs.Founding.{noBook}
+use Rattle.image.specs.Image.{isImage, asBook, bookIn}
+use Rattle.image.proofs.book_words.read_book.Statement.{statement}
+use Rattle.image.proofs.book_words.read_book.Tie as tie
+
+unfit : isFitStart (record { limits = replicate 8 0 }) ≡ false
+unfolding isFitStart groupTable isFit floors every _and_
+unfit = refl
+
+none-in : (ws : List ℕ) → isImage ws ≡ false → noBook ≡ bookIn ws
+unfolding bookIn
+none-in ws e = rw e
+
+held-in : (ws : List ℕ) → isImage ws ≡ true → asBook ws ≡ bookIn ws
+unfolding bookIn
+held-in ws e = rw e
+
+is-image-requires : tie.Need-is-image-requires
+is-image-requires c κs = search needs
+
+found-requires : tie.Need-found-requires
+found-requires c κs = search needs
+
+returns : tie.Need-returns
+returns c =
+    let k = c .before .before in
+    let no = sym (k .before .is-image .ensures) ∙ not-true _ (k .if1 .taken) in
+    c .before .found .ensures .refused unfit ∙ none-in (k .before .before .before .args .w .now) no
+
+shared-slice-read-is-open : tie.Need-shared-slice-read-is-open
+shared-slice-read-is-open c = search needs
+
+shared-slice-read-t19 : tie.Need-shared-slice-read-t19
+shared-slice-read-t19 c = search needs
+
+shared-slice-read-t21 : tie.Need-shared-slice-read-t21
+shared-slice-read-t21 c = search needs
+
+shared-slice-read-t23 : tie.Need-shared-slice-read-t23
+shared-slice-read-t23 c = search needs
+
+shared-slice-read-is-open-2 : tie.Need-shared-slice-read-is-open-2
+shared-slice-read-is-open-2 c = search needs
+
+sub-limits-in : tie.Need-sub-limits-in
+sub-limits-in c = search needs
+
+part-limits-in-start : tie.Need-part-limits-in-start
+part-limits-in-start c = search needs
+
+part-limits-in-end : tie.Need-part-limits-in-end
+part-limits-in-end c = search needs
+
+limits-in-requires : tie.Need-limits-in-requires
+limits-in-requires c κs = search needs
+
+sub-standings-in : tie.Need-sub-standings-in
+sub-standings-in c = search needs
+
+part-standings-in-start : tie.Need-part-standings-in-start
+part-standings-in-start c = search needs
+
+part-standings-in-end : tie.Need-part-standings-in-end
+part-standings-in-end c = search needs
+
+standings-in-requires : tie.Need-standings-in-requires
+standings-in-requires c κs = search needs
+
+sub-sizes-in : tie.Need-sub-sizes-in
+sub-sizes-in c = search needs
+
+part-sizes-in-start : tie.Need-part-sizes-in-start
+part-sizes-in-start c = search needs
+
+part-sizes-in-end : tie.Need-part-sizes-in-end
+part-sizes-in-end c = search needs
+
+sizes-in-requires : tie.Need-sizes-in-requires
+sizes-in-requires c κs = search needs
+
+sub-settlements-in : tie.Need-sub-settlements-in
+sub-settlements-in c = search needs
+
+part-settlements-in-start : tie.Need-part-settlements-in-start
+part-settlements-in-start c = search needs
+
+part-settlements-in-end : tie.Need-part-settlements-in-end
+part-settlements-in-end c = search needs
+
+settlements-in-requires : tie.Need-settlements-in-requires
+settlements-in-requires c κs = search needs
+
+sub-sheets-in : tie.Need-sub-sheets-in
+sub-sheets-in c = search needs
+
+part-sheets-in-start : tie.Need-part-sheets-in-start
+part-sheets-in-start c = search needs
+
+part-sheets-in-end : tie.Need-part-sheets-in-end
+part-sheets-in-end c = search needs
+
+sheets-in-requires : tie.Need-sheets-in-requires
+sheets-in-requires c κs = search needs
+
+sub-sheets-in-2 : tie.Need-sub-sheets-in-2
+sub-sheets-in-2 c = search needs
+
+part-sheets-in-start-2 : tie.Need-part-sheets-in-start-2
+part-sheets-in-start-2 c = search needs
+
+part-sheets-in-end-2 : tie.Need-part-sheets-in-end-2
+part-sheets-in-end-2 c = search needs
+
+sheets-in-requires-2 : tie.Need-sheets-in-requires-2
+sheets-in-requires-2 c κs = search needs
+
+returns-2 : tie.Need-returns-2
+returns-2 c =
+    let l = c .before .before in
+    let w = l .before .before in
+    let n = w .before .before in
+    let s = n .before .before in
+    let i = s .before .before in
+    let k = i .before .before .before .before .before .before .before in
+    let yes = sym (k .before .is-image .ensures) ∙ not-false _ (k .if1 .left) in
+    rw (c .sheets-in2 .ensures, l .sheets-in .ensures, w .settlements-in .ensures, n .sizes-in .ensures, s .standings-in .ensures, i .limits-in .ensures)
+    (held-in (k .before .before .before .args .w .now) yes)
+
+pub read-book-spec : {M : Type 1} → statement M
+read-book-spec =
+    tie.close
+    (tie.spec
+    is-image-requires
+    found-requires
+    returns
+    shared-slice-read-is-open
+    shared-slice-read-t19
+    shared-slice-read-t21
+    shared-slice-read-t23
+    shared-slice-read-is-open-2
+    sub-limits-in
+    part-limits-in-start
+    part-limits-in-end
+    limits-in-requires
+    sub-standings-in
+    part-standings-in-start
+    part-standings-in-end
+    standings-in-requires
+    sub-sizes-in
+    part-sizes-in-start
+    part-sizes-in-end
+    sizes-in-requires
+    sub-settlements-in
+    part-settlements-in-start
+    part-settlements-in-end
+    settlements-in-requires
+    sub-sheets-in
+    part-sheets-in-start
+    part-sheets-in-end
+    sheets-in-requires
+    sub-sheets-in-2
+    part-sheets-in-start-2
+    part-sheets-in-end-2
+    sheets-in-requires-2
+    returns-2)

@@ -1,0 +1,5 @@
+pub mod Places
+pub mod Words
+pub mod Image
+pub mod Answers
+pub mod Put

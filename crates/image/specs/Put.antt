@@ -1,0 +1,42 @@
+-- What is left where a book and the answers of calls are written over any words.
+use Prim.Native.Nat.{ℕ, _<_}
+use mathlib.Core.Path.{_≡_}
+use mathlib.Core.Bool.{true}
+use mathlib.Core.List.{List, _++_}
+use lib.ListN.{length, getD, drop}
+use Rattle.record.specs.Sound.{isSound}
+use Rattle.sheets.specs.declared.Sheet.{Sheet}
+use Rattle.book.specs.declared.Book.{Book}
+use Rattle.book.specs.Book.{noSheet, view}
+use Rattle.image.specs.Places as at
+use Rattle.image.specs.Image.{wordsOfBook, bookIn}
+use Rattle.image.specs.Answers.{renewedIn, eventsIn}
+
+-- The image of a book, with the words rs of what the last opening answered and es of what the last end did.
+abbrev pub imageOf : Book → List ℕ → List ℕ → List ℕ
+imageOf b rs es = wordsOfBook b ++ (rs ++ es)
+
+-- The words are that image, and all of it is read back from them: the book of the image of a book is that book.
+pub record Put (b : Book) (rs es now : List ℕ) : Type 0 where
+  pub words : now ≡ imageOf b rs es
+  pub book : isSound (view b) ≡ true → bookIn now ≡ b
+  pub renewed : renewedIn now ≡ rs
+  pub events : eventsIn now ≡ es
+
+-- ---- For the functions inside. Rattle's arrays have fixed lengths and antt's lists have not: the lengths that a book is known to have.
+pub record SheetsPut (sheets : List Sheet) : Type 0 where
+  pub all : length sheets ≡ 8
+  pub each : (p : ℕ) → p < 8 → length (getD sheets p noSheet .contracts) ≡ 16
+
+pub record Shaped (b : Book) : Type 0 where
+  pub limits : length (b .limits) ≡ 8
+  pub standings : length (b .standings) ≡ 6
+  pub sizes : length (b .windows .sizes) ≡ 8
+  pub settlements : length (b .windows .settlements) ≡ 360
+  pub today : SheetsPut (b .today)
+  pub last : SheetsPut (b .last)
+
+-- a book's words, before what was behind them
+pub record BookPut (ws : List ℕ) (b : Book) (now : List ℕ) : Type 0 where
+  pub words : now ≡ wordsOfBook b ++ drop at.renewed ws
+  pub shaped : Shaped b

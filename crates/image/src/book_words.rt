@@ -1,0 +1,106 @@
+// The words of a book, part by part.
+ghost use denote.Ref.{now};
+ghost use mathlib.Core.Path.{_≡_};
+ghost use lib.ListN.{length};
+ghost use Rattle.image.specs.Places as at;
+ghost use Rattle.image.specs.Image.{wordsOfHead, isImage, bookIn};
+ghost use Rattle.image.specs.Put.{BookPut};
+use crate::flags::are_flags;
+use crate::flags::flag_word;
+use crate::limit_words::limits_in;
+use crate::limit_words::put_limits;
+use crate::places;
+use crate::sheet_words::put_sheets;
+use crate::sheet_words::sheets_in;
+use crate::standing_words::put_standings;
+use crate::standing_words::standings_in;
+use crate::window_words::put_settlements;
+use crate::window_words::put_sizes;
+use crate::window_words::settlements_in;
+use crate::window_words::sizes_in;
+use book::Book;
+use record::Day;
+use windows::Windows;
+
+fn is_image(w: &[u32]) -> bool
+    requires { ⌜ length (now w) ≡ at.words ⌝ }
+    ensures { λ r. ⌜ r ≡ isImage (now (w .entry)) ⌝ }
+{
+    if w[places::FORMAT] != places::FORMAT_NUMBER {
+        return false;
+    }
+    if 1 < w[places::IS_OPEN] {
+        return false;
+    }
+    are_flags(&w[places::STANDINGS..places::SIZES])
+}
+
+// Words that are no image hold the book on which every call is refused with 1.
+pub(crate) fn read_book(w: &[u32]) -> Book
+    requires { ⌜ length (now w) ≡ at.words ⌝ }
+    ensures { λ r. ⌜ r ≡ bookIn (now (w .entry)) ⌝ }
+{
+    if !is_image(w) {
+        let none = book::found([0; 8]);
+        let b = none.book;
+        return b;
+    }
+    let day = Day {
+        year: w[places::YEAR],
+        month: w[places::MONTH],
+        day: w[places::DAY],
+        left: w[places::LEFT],
+    };
+    let is_open = w[places::IS_OPEN] == 1;
+    let limits = limits_in(&w[places::LIMITS..places::STANDINGS]);
+    let standings = standings_in(&w[places::STANDINGS..places::SIZES]);
+    let sizes = sizes_in(&w[places::SIZES..places::SETTLEMENTS]);
+    let settlements = settlements_in(&w[places::SETTLEMENTS..places::TODAY]);
+    let windows = Windows { settlements, sizes };
+    let today = sheets_in(&w[places::TODAY..places::LAST]);
+    let last = sheets_in(&w[places::LAST..places::RENEWED]);
+    Book {
+        limits,
+        standings,
+        windows,
+        today,
+        last,
+        day,
+        is_open,
+    }
+}
+
+// All before the limits.
+fn write_head(out: &mut [u32], is_open: bool, day: Day)
+    requires { ⌜ length (now out) ≡ at.limits ⌝ }
+    ensures { λ r. ⌜ now (out .exit) ≡ wordsOfHead is_open day ⌝ }
+{
+    out[places::FORMAT] = places::FORMAT_NUMBER;
+    out[places::IS_OPEN] = flag_word(is_open);
+    out[places::YEAR] = day.year;
+    out[places::MONTH] = day.month;
+    out[places::DAY] = day.day;
+    out[places::LEFT] = day.left;
+}
+
+// The words after the book's stay.
+pub(crate) fn write_book(w: &mut [u32], b: Book)
+    requires { ⌜ length (now w) ≡ at.words ⌝ }
+    ensures { λ r. ⌜ BookPut (now (w .entry)) b (now (w .exit)) ⌝ }
+{
+    let day = b.day;
+    write_head(&mut w[places::FORMAT..places::LIMITS], b.is_open, day);
+    let limits = b.limits;
+    put_limits(&mut w[places::LIMITS..places::STANDINGS], limits);
+    let standings = b.standings;
+    put_standings(&mut w[places::STANDINGS..places::SIZES], standings);
+    let windows = b.windows;
+    let sizes = windows.sizes;
+    put_sizes(&mut w[places::SIZES..places::SETTLEMENTS], sizes);
+    let settlements = windows.settlements;
+    put_settlements(&mut w[places::SETTLEMENTS..places::TODAY], settlements);
+    let today = b.today;
+    put_sheets(&mut w[places::TODAY..places::LAST], today);
+    let last = b.last;
+    put_sheets(&mut w[places::LAST..places::RENEWED], last);
+}
