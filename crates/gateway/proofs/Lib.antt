@@ -1,3 +1,7 @@
+pub mod Leaves
+pub mod Imaged
+pub mod TallyWords
 pub mod BareAnswers
+pub mod BookAnswers
 pub mod Proved
 pub mod Ties

@@ -1,14 +1,15 @@
--- What holds of every list of bare checks through one tally.
+-- What holds of every list of checks through one tally, bare ones and those on books.
 use mathlib.Core.Path.{refl}
 use Rattle.tally.specs.Through.{talliedAnswer, tallyAfter}
 use Rattle.tally.proofs.Totals.{Lawful}
 use Rattle.tally.proofs.Proved.{through-one-tally}
-use Rattle.gateway.specs.Through.{bareChecks, BareThroughOneTally}
+use Rattle.gateway.specs.Through.{bareChecks, BareThroughOneTally, imageChecks, ImagesThroughOneTally}
 use Rattle.gateway.proofs.BareAnswers.{bare-not-tallys}
+use Rattle.gateway.proofs.BookAnswers.{image-not-full}
 
-lawful : Lawful bareChecks
+bare-lawful : Lawful bareChecks
 unfolding talliedAnswer tallyAfter
-lawful =
+bare-lawful =
     record {
       answers = λ t o r u p. p .answer;
       tally = λ t o r u p. p .tally;
@@ -17,4 +18,17 @@ lawful =
     }
 
 pub bare-through-one-tally : BareThroughOneTally
-bare-through-one-tally = through-one-tally bareChecks lawful
+bare-through-one-tally = through-one-tally bareChecks bare-lawful
+
+images-lawful : Lawful imageChecks
+unfolding talliedAnswer tallyAfter
+images-lawful =
+    record {
+      answers = λ t o r u p. p .answer;
+      tally = λ t o r u p. p .tally;
+      notFull = λ o. image-not-full (o .words) (o .product) (o .size) (o .month) (o .price);
+      saysFull = refl;
+    }
+
+pub images-through-one-tally : ImagesThroughOneTally
+images-through-one-tally = through-one-tally imageChecks images-lawful

@@ -1,12 +1,21 @@
-// What C programs call: the bare check, on plain numbers, and through a tally.
+// What C programs call: the bare check, the calls on a book, and either check through a tally. include/botskhela.h says what the
+// arguments and answers are. No function here has a `requires`; a book is the words of its image, lent by reference.
 ghost use mathlib.Core.Path.{_≡_};
 ghost use Rattle.grain.specs.Bare.{bareCheck};
 
+mod calls;
+mod numbers;
 mod tallied;
+mod tally_words;
 
+pub use calls::botskhela_check;
+pub use calls::botskhela_end;
+pub use calls::botskhela_found;
+pub use calls::botskhela_open;
+pub use calls::botskhela_sheet;
+pub use tallied::botskhela_tallied_book_check;
 pub use tallied::botskhela_tallied_check;
 
-// include/botskhela.h says what the arguments and answers are.
 #[no_mangle]
 pub extern "C" fn botskhela_bare_check(
     product: u32,

@@ -1,13 +1,18 @@
-// The bare check through a tally.
+// The bare check and the check on a book through a tally, which is lent as six words.
 ghost use denote.Ref.{now};
 ghost use mathlib.Core.Path.{_≡_};
 ghost use mathlib.Core.Bool.{cond};
 ghost use Rattle.grain.specs.Bare.{bareCheck};
 ghost use Rattle.tally.specs.Tally.{tallyRefusal, takes};
-ghost use Rattle.gateway.specs.Tallied.{kindOfNumber, TalliesBare};
+ghost use Rattle.gateway.specs.Calls.{imageCheck};
+ghost use Rattle.gateway.specs.Tallied.{kindOfNumber, tallyIn, TalliesBare, TalliesImage};
 use crate::botskhela_bare_check;
+use crate::calls::botskhela_check;
+use crate::tally_words::tally_in;
+use crate::tally_words::words_of;
 use grain::Verdict;
 use grain::verdict_number;
+use image::WORDS;
 use tally::Kind;
 use tally::Tally;
 
@@ -31,7 +36,7 @@ fn kind_of(number: u32) -> Kind
 }
 
 // The tally's own refusals come first.
-fn answer(
+fn bare_answer(
     t: Tally,
     product: u32,
     size: u32,
@@ -50,10 +55,26 @@ fn answer(
     botskhela_bare_check(product, size, settlement, amount, spot, price)
 }
 
-// include/botskhela.h says what the arguments and answers are.
+fn book_answer(
+    t: Tally,
+    words: &[u32; WORDS],
+    product: u32,
+    size: u32,
+    month: u32,
+    price: u32,
+) -> u32
+    ensures { λ r. ⌜ r ≡ cond (takes t) (imageCheck (now (words .entry)) product size month price) (tallyRefusal t) ⌝ }
+{
+    let n = tally::refusal(t);
+    if n != 0 {
+        return n;
+    }
+    botskhela_check(words, product, size, month, price)
+}
+
 #[no_mangle]
 pub extern "C" fn botskhela_tallied_check(
-    t: &mut Tally,
+    tally: &mut [u32; 6],
     product: u32,
     size: u32,
     settlement: u32,
@@ -61,11 +82,28 @@ pub extern "C" fn botskhela_tallied_check(
     spot: u32,
     price: u32,
 ) -> u32
-    ensures { λ r. ⌜ TalliesBare (now (t .entry)) product size settlement amount spot price r (now (t .exit)) ⌝ }
+    ensures { λ r. ⌜ TalliesBare (tallyIn (now (tally .entry))) product size settlement amount spot price r (tallyIn (now (tally .exit))) ⌝ }
 {
-    let r = answer(*t, product, size, settlement, amount, spot, price);
-    let kind = kind_of(r);
+    let t = tally_in(*tally);
+    let r = bare_answer(t, product, size, settlement, amount, spot, price);
     // A tally that refuses is left as it is.
-    tally::count(t, kind);
+    *tally = words_of(tally::counted(t, kind_of(r)));
+    r
+}
+
+#[no_mangle]
+pub extern "C" fn botskhela_tallied_book_check(
+    tally: &mut [u32; 6],
+    words: &[u32; WORDS],
+    product: u32,
+    size: u32,
+    month: u32,
+    price: u32,
+) -> u32
+    ensures { λ r. ⌜ TalliesImage (tallyIn (now (tally .entry))) (now (words .entry)) product size month price r (tallyIn (now (tally .exit))) ⌝ }
+{
+    let t = tally_in(*tally);
+    let r = book_answer(t, words, product, size, month, price);
+    *tally = words_of(tally::counted(t, kind_of(r)));
     r
 }

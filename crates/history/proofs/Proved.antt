@@ -40,7 +40,7 @@ product-same z p l =
       mark = ap (λ (g : Group). g .mark) g;
     }
 
-same-contents : (z : Book) (r : Record) → view z ≡ r → SameContents z r
+pub same-contents : (z : Book) (r : Record) → view z ≡ r → SameContents z r
 unfolding view viewCommon
 same-contents z r e =
     record {

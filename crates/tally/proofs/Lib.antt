@@ -1,5 +1,5 @@
 pub mod Takes
-pub mod Counted
+pub mod Answered
 pub mod Totals
 pub mod Proved
 pub mod Cases

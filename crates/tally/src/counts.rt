@@ -59,7 +59,7 @@ fn one_more(t: Tally, kind: Kind) -> Tally
 }
 
 // A tally that refuses stays as it is.
-fn counted(t: Tally, kind: Kind) -> Tally
+pub fn counted(t: Tally, kind: Kind) -> Tally
     ensures { λ r. ⌜ r ≡ countedIn t kind ⌝ }
 {
     if refusal(t) != 0 {

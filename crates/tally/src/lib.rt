@@ -6,12 +6,12 @@ use grain::Verdict;
 mod counts;
 
 pub use counts::count;
+pub use counts::counted;
 pub use counts::refusal;
 
 // The refusal of a check through a full tally.
 pub const TALLY_FULL: u32 = 15;
 
-#[repr(C)]
 pub struct Tally {
     // The number of checks; the sum of the other five.
     pub asked: u32,

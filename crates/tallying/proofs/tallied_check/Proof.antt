@@ -49,7 +49,7 @@ use Rattle.tally.specs.declared.Tally.{Tally}
 use Rattle.tally.specs.declared.Kind.{Kind}
 use Rattle.tally.specs.Tally.{tallyRefusal, takes, counted}
 use Rattle.tallying.specs.Tallies.{kindOf, bookAnswer, Tallies}
-use Rattle.tally.proofs.Counted.{answered-counted}
+use Rattle.tally.proofs.Answered.{answered-counted}
 use Rattle.book.proofs.Book as B
 use Rattle.book.proofs.Book.Laws as B′
 use Rattle.checking.proofs.Checked as R

@@ -1,8 +1,8 @@
 use borrow.Author.Needs.{needs}
 use borrow.Author.Tests.{eq-eqb, ne-eqb}
 use mathlib.Core.Path.{sym, _∙_}
-use Rattle.gateway.proofs.tallied.answer.Statement.{statement}
-use Rattle.gateway.proofs.tallied.answer.Tie as tie
+use Rattle.gateway.proofs.tallied.bare_answer.Statement.{statement}
+use Rattle.gateway.proofs.tallied.bare_answer.Tie as tie
 
 refusal-requires : tie.Need-refusal-requires
 refusal-requires c κs = search needs
@@ -18,5 +18,5 @@ returns-2 : tie.Need-returns-2
 returns-2 c =
     rw (eq-eqb _ 0 (sym (c .before .before .refusal .ensures) ∙ c .before .if1 .left)) (c .botskhela-bare-check .ensures)
 
-pub answer-spec : {M : Type 1} → statement M
-answer-spec = tie.close (tie.spec refusal-requires returns botskhela-bare-check-requires returns-2)
+pub bare-answer-spec : {M : Type 1} → statement M
+bare-answer-spec = tie.close (tie.spec refusal-requires returns botskhela-bare-check-requires returns-2)

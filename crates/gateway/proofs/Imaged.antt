@@ -1,0 +1,157 @@
+-- The theorem over whole lists of calls on an image, proved; and what words with no book in them answer.
+use Prim.Native.Nat.{ℕ}
+use mathlib.Core.Path.{_≡_, refl, sym, _∙_, ap}
+use mathlib.Core.Bool.{Bool, true, false, not, cond}
+use mathlib.Core.List.{List, [], _∷_}
+use mathlib.Core.Option.{Option, some, none}
+use lib.Dec.{eqb}
+use Rattle.grain.specs.Lists.{_and_, every}
+use Rattle.grain.specs.declared.check.Verdict.{Verdict}
+use Rattle.grain.specs.declared.check.Verdict.the-variants.{Free, Within, Below, Above}
+use Rattle.record.specs.Refusals.{unsound}
+use Rattle.record.specs.State.{Record, groupOf, groupAt}
+use Rattle.record.specs.Founding.{Start, isFitStart, founded}
+use Rattle.record.specs.Sound.{isSound}
+use Rattle.record.specs.Record.{Call, check, Answer, refused, opened, filed, ended, checked, refusal, answer, answerBy, respond, stateAfter, answers}
+use Rattle.record.specs.History.{SameFor}
+use Rattle.record.specs.Theorems.{after, historyOf, isRefusal}
+use Rattle.record.proofs.Proved.{theorems}
+use Rattle.book.specs.Book.{view}
+use Rattle.book.proofs.Numbered.{unsound-refusal}
+use Rattle.book.proofs.Responses.{check-responds}
+use Rattle.book.proofs.Unfounded.{no-book-unsound}
+use Rattle.history.proofs.Proved.{same-contents}
+use Rattle.image.specs.Image.{isImage, bookIn}
+use Rattle.image.specs.Answers.{renewedIn, eventsIn}
+use Rattle.gateway.specs.Calls.{answerNumber, renewedAfter, eventsAfter, answerTo, RespondsImage, imageCheck, noRenewed, noEvents, FoundsImage}
+use Rattle.gateway.specs.Images.{Seen, sees, seenOf, ImageTrace, done, changes, checks, ImageRun, WholeImages, NoImage}
+use Rattle.gateway.proofs.Leaves.{fit-by}
+
+-- ---- one call
+-- a check's answer leaves what stands beside the book
+module _ (v : Verdict) (l : List ℕ) where
+  keeps-renewed : (o : Option ℕ) → l ≡ renewedAfter (answerBy o (checked v)) l
+  keeps-renewed (some n) = refl
+  keeps-renewed none = refl
+
+  keeps-events : (o : Option ℕ) → l ≡ eventsAfter (answerBy o (checked v)) l
+  keeps-events (some n) = refl
+  keeps-events none = refl
+
+check-image : (ws : List ℕ) (p size month price n : ℕ) → n ≡ imageCheck ws p size month price → RespondsImage ws (check p size month price) n ws
+unfolding respond answer
+check-image ws p size month price n e =
+    let r = refusal (view (bookIn ws)) (check p size month price) in
+    record {
+      number = e;
+      state = check-responds (bookIn ws) p size month price (answerTo ws (check p size month price)) refl .state;
+      renewed = keeps-renewed _ (renewedIn ws) r;
+      events = keeps-events _ (eventsIn ws) r;
+      unchanged = λ m f. refl;
+    }
+
+-- ---- one list
+record Follows (ws : List ℕ) (cs : List Call) (vs : List Seen) (z : List ℕ) : Type 0 where
+  seen : vs ≡ seenOf (renewedIn ws) (eventsIn ws) (answers (view (bookIn ws)) cs)
+  contents : view (bookIn z) ≡ stateAfter (view (bookIn ws)) cs
+
+one-more : {ws now z : List ℕ} {c : Call} {n : ℕ} {cs : List Call} {vs : List Seen}
+    → RespondsImage ws c n now → Follows now cs vs z → Follows ws (c ∷ cs) (sees n now ∷ vs) z
+unfolding answers stateAfter seenOf
+one-more {ws} {now} {z} {c} {n} {cs} {vs} r f =
+    record {
+      seen = rw (← r .state, ← r .renewed, ← r .events, ← r .number) (ap (λ l. sees n now ∷ l) (f .seen));
+      contents = rw (← r .state) (f .contents);
+    }
+
+follows : {ws z : List ℕ} {cs : List Call} {vs : List Seen} → ImageTrace ws cs vs z → Follows ws cs vs z
+unfolding answers stateAfter seenOf
+follows done = record { seen = refl; contents = refl }
+follows (changes n r t) = one-more r (follows t)
+follows (checks n e t) = one-more (check-image _ _ _ _ _ n e) (follows t)
+
+module _ (s : Start) (cs : List Call) (vs : List Seen) (z : List ℕ) (run : ImageRun s cs vs z) where
+  fit : isFitStart s ≡ true
+  fit = fit-by (isFitStart s) 0 (run .founds .number) refl
+
+  seen-is : vs ≡ seenOf noRenewed noEvents (answers (founded s) cs)
+  seen-is =
+      let f = run .founds in
+      let ws = run .fresh in
+      follows (run .trace) .seen
+      ∙ ap (λ (r : Record). seenOf (renewedIn ws) (eventsIn ws) (answers r cs)) (f .state fit)
+      ∙ ap (λ rs. seenOf rs (eventsIn ws) (answers (founded s) cs)) (f .renewed fit)
+      ∙ ap (λ es. seenOf noRenewed es (answers (founded s) cs)) (f .events fit)
+
+  contents-are : view (bookIn z) ≡ after s cs
+  contents-are = follows (run .trace) .contents ∙ ap (λ (r : Record). stateAfter r cs) (run .founds .state fit)
+
+-- no number is 1 where no answer is refusal 1
+number-of : (a : Answer) → eqb (answerNumber a) unsound ≡ isRefusal unsound a
+number-of (refused n) = refl
+number-of (opened l) = refl
+number-of filed = refl
+number-of (ended l) = refl
+number-of (checked Free) = refl
+number-of (checked Within) = refl
+number-of (checked Below) = refl
+number-of (checked Above) = refl
+
+numbers-are : (rs es : List ℕ) (l : List Answer)
+    → every (λ v. not (eqb (v .number) unsound)) (seenOf rs es l) ≡ every (λ a. not (isRefusal unsound a)) l
+unfolding every seenOf
+numbers-are rs es [] = refl
+numbers-are rs es (a ∷ l) = rw (number-of a, numbers-are (renewedAfter a rs) (eventsAfter a es) l)
+
+never-unsound : (s : Start) (cs : List Call) (vs : List Seen) (z : List ℕ) → ImageRun s cs vs z
+    → every (λ v. not (eqb (v .number) unsound)) vs ≡ true
+never-unsound s cs vs z run =
+    ap (every (λ v. not (eqb (v .number) unsound))) (seen-is s cs vs z run)
+    ∙ numbers-are noRenewed noEvents (answers (founded s) cs)
+    ∙ theorems .neverUnsound s (fit s cs vs z run) cs
+
+-- ---- two lists
+module _ (s : Start) (g : ℕ) (cs ds : List Call) (us vs : List Seen) (y z : List ℕ) (one : ImageRun s cs us y) (other : ImageRun s ds vs z)
+    (same : SameFor g (historyOf s cs) (historyOf s ds)) where
+  same-day : view (bookIn y) .common ≡ view (bookIn z) .common
+  same-day = rw (contents-are s cs us y one, contents-are s ds vs z other) (theorems .sameDay s g cs ds same)
+
+  same-group : groupAt (view (bookIn y)) g ≡ groupAt (view (bookIn z)) g
+  same-group = rw (contents-are s cs us y one, contents-are s ds vs z other) (theorems .sameGroup s g cs ds same)
+
+  same-checks : (p size month price : ℕ) → groupOf p ≡ g → imageCheck y p size month price ≡ imageCheck z p size month price
+  same-checks p size month price e =
+      ap (λ (r : Record). answerNumber (respond r (check p size month price) .answer)) (contents-are s cs us y one)
+      ∙ ap answerNumber (theorems .sameChecks s (fit s cs us y one) g cs ds same p size month price e)
+      ∙ sym (ap (λ (r : Record). answerNumber (respond r (check p size month price) .answer)) (contents-are s ds vs z other))
+
+pub whole-images : WholeImages
+whole-images =
+    record {
+      seen = seen-is;
+      contents = contents-are;
+      compared = λ s cs vs z run. same-contents (bookIn z) (after s cs) (contents-are s cs vs z run);
+      neverUnsound = never-unsound;
+      oneLevel = λ s cs vs z run. rw (contents-are s cs vs z run) (theorems .oneLevel s cs);
+      sameDay = same-day;
+      sameGroup = same-group;
+      sameChecks = same-checks;
+    }
+
+-- ---- words with no book in them
+module _ (ws : List ℕ) (no : isImage ws ≡ false) where
+  no-sound : isSound (view (bookIn ws)) ≡ false
+  unfolding bookIn
+  no-sound = rw no no-book-unsound
+
+  unsound-answer : (c : Call) → answerTo ws c ≡ refused unsound
+  unfolding respond
+  unsound-answer c = rw (unsound-refusal (view (bookIn ws)) c no-sound)
+
+pub no-image : NoImage
+no-image =
+    record {
+      changes = λ ws now c n no r.
+          (r .number ∙ ap answerNumber (unsound-answer ws no c), r .unchanged unsound (unsound-refusal (view (bookIn ws)) c (no-sound ws no)));
+      checks = λ ws p size month price no. ap answerNumber (unsound-answer ws no (check p size month price));
+    }
