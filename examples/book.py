@@ -1,0 +1,100 @@
+"""The calls of first.c from Python, through the installed shared object: python3 examples/book.py"""
+
+from ctypes import CDLL, POINTER, Structure, byref, c_size_t, c_uint32 as u32, sizeof
+
+
+class Limit(Structure):
+    _fields_ = [("initial", u32), ("expanded", u32)]
+
+
+class Standing(Structure):
+    _fields_ = [("expanded", u32), ("marked", u32)]
+
+
+class Contract(Structure):
+    _fields_ = [("month", u32), ("settlement", u32)]
+
+
+class ProductSheet(Structure):
+    _fields_ = [("count", u32), ("contracts", Contract * 16)]
+
+
+class Windows(Structure):
+    _fields_ = [("counts", u32 * 8), ("settlements", u32 * 45 * 8)]
+
+
+class Event(Structure):
+    _fields_ = [("kind", u32), ("month", u32), ("product", u32)]
+
+
+class Book(Structure):
+    _fields_ = [
+        ("format", u32),
+        ("is_open", u32),
+        ("year", u32),
+        ("month", u32),
+        ("day", u32),
+        ("left", u32),
+        ("limits", Limit * 8),
+        ("standings", Standing * 6),
+        ("windows", Windows),
+        ("today", ProductSheet * 8),
+        ("last", ProductSheet * 8),
+        ("renewed", u32 * 8),
+        ("events", Event * 6),
+    ]
+
+
+assert sizeof(Book) == 4 * 956
+
+CORN = 0
+STANDARD = 0
+WITHIN = 101
+
+library = CDLL("libbotskhela.so.1")
+
+
+def declared(name, *arguments):
+    function = getattr(library, "botskhela_" + name)
+    function.argtypes = arguments
+    function.restype = u32
+    return function
+
+
+found = declared("found", POINTER(Book), *[u32] * 8)
+open_day = declared("open", POINTER(Book), *[u32] * 4)
+file_sheet = declared("sheet", POINTER(Book), u32, POINTER(u32), c_size_t, POINTER(u32), c_size_t)
+end_day = declared("end", POINTER(Book))
+check = declared("check", POINTER(Book), *[u32] * 4)
+
+
+def must(refusal):
+    if refusal != 0:
+        raise ValueError(f"refused {refusal}")
+
+
+def numbers(values):
+    return (u32 * len(values))(*values)
+
+
+def judge(book, month, price):
+    answer = check(byref(book), CORN, STANDARD, month, price)
+    print(price, "within" if answer == WITHIN else "not within")
+
+
+def main():
+    july = [2024 * 12 + 7 - 1]  # a month that all eight products trade
+    settlements = [3600]
+    book = Book()
+
+    must(found(byref(book), 200, 600, 250, 200, 240, 240, 160, 100))
+    must(open_day(byref(book), 2024, 6, 25, 3))
+    for product in range(8):
+        must(file_sheet(byref(book), product, numbers(july), len(july), numbers(settlements), len(settlements)))
+    must(end_day(byref(book)))
+    must(open_day(byref(book), 2024, 6, 26, 2))
+    judge(book, july[0], 3800)
+    judge(book, july[0], 3802)
+
+
+main()
