@@ -14,7 +14,7 @@ use Rattle.record.specs.Founding.{Start, isFitStart, founded}
 use Rattle.record.specs.Sound.{isSound}
 use Rattle.record.specs.Record.{Call, check, Answer, refused, opened, filed, ended, checked, refusal, answer, answerBy, respond, stateAfter, answers}
 use Rattle.record.specs.History.{SameFor}
-use Rattle.record.specs.Theorems.{after, historyOf, isRefusal}
+use Rattle.record.specs.Theorems.{after, historyOf, isRefusal, BetweenLimits, isWithin}
 use Rattle.record.proofs.Proved.{theorems}
 use Rattle.book.specs.Book.{view}
 use Rattle.book.proofs.Numbered.{unsound-refusal}
@@ -110,6 +110,15 @@ never-unsound s cs vs z run =
     ∙ numbers-are noRenewed noEvents (answers (founded s) cs)
     ∙ theorems .neverUnsound s (fit s cs vs z run) cs
 
+coupled : (s : Start) (cs : List Call) (vs : List Seen) (z : List ℕ) → ImageRun s cs vs z
+    → (p q i j m n x y : ℕ) (v w : Verdict) → groupOf p ≡ groupOf q
+    → BetweenLimits (view (bookIn z)) p m x → BetweenLimits (view (bookIn z)) q n y
+    → answerTo z (check p i m x) ≡ checked v → answerTo z (check q j n y) ≡ checked w → isWithin v ≡ isWithin w
+coupled s cs vs z run p q i j m n x y v w e a b h k =
+    let is = contents-are s cs vs z run in
+    let answered : (c : Call) → respond (after s cs) c .answer ≡ answerTo z c = λ c. ap (λ (r : Record). respond r c .answer) (sym is) in
+    theorems .coupled s cs p q i j m n x y v w e (rw (← is) a) (rw (← is) b) (answered (check p i m x) ∙ h) (answered (check q j n y) ∙ k)
+
 -- ---- two lists
 module _ (s : Start) (g : ℕ) (cs ds : List Call) (us vs : List Seen) (y z : List ℕ) (one : ImageRun s cs us y) (other : ImageRun s ds vs z)
     (same : SameFor g (historyOf s cs) (historyOf s ds)) where
@@ -133,6 +142,7 @@ whole-images =
       compared = λ s cs vs z run. same-contents (bookIn z) (after s cs) (contents-are s cs vs z run);
       neverUnsound = never-unsound;
       oneLevel = λ s cs vs z run. rw (contents-are s cs vs z run) (theorems .oneLevel s cs);
+      coupled = coupled;
       sameDay = same-day;
       sameGroup = same-group;
       sameChecks = same-checks;

@@ -6,17 +6,18 @@ use mathlib.Core.Bool.{true, false, not}
 use mathlib.Core.List.{List, [], _∷_}
 use lib.Dec.{eqb}
 use Rattle.grain.specs.Lists.{every}
+use Rattle.grain.specs.declared.check.Verdict.{Verdict}
 use Rattle.record.specs.Refusals.{unsound}
 use Rattle.record.specs.State.{groupOf, groupAt}
 use Rattle.record.specs.Founding.{Start, founded}
-use Rattle.record.specs.Record.{Call, check, Answer, answers}
+use Rattle.record.specs.Record.{Call, check, Answer, checked, answers}
 use Rattle.record.specs.History.{SameFor}
-use Rattle.record.specs.Theorems.{after, historyOf, OneLevel}
+use Rattle.record.specs.Theorems.{after, historyOf, OneLevel, BetweenLimits, isWithin}
 use Rattle.book.specs.Book.{view}
 use Rattle.history.specs.Whole.{SameContents}
 use Rattle.image.specs.Image.{isImage, bookIn}
 use Rattle.image.specs.Answers.{renewedIn, eventsIn}
-use Rattle.gateway.specs.Calls.{answerNumber, renewedAfter, eventsAfter, RespondsImage, imageCheck, noRenewed, noEvents, FoundsImage}
+use Rattle.gateway.specs.Calls.{answerNumber, renewedAfter, eventsAfter, answerTo, RespondsImage, imageCheck, noRenewed, noEvents, FoundsImage}
 
 -- what a C program sees of a call: the number that it returns, and what then stands in renewed and events
 pub record Seen : Type 0 where
@@ -62,6 +63,11 @@ pub record WholeImages : Type 0 where
       → every (λ v. not (eqb (v .number) unsound)) vs ≡ true
   -- the three products of the Soybean Complex stand on one level
   pub oneLevel : (s : Start) (cs : List Call) (vs : List Seen) (z : List ℕ) → ImageRun s cs vs z → OneLevel (view (bookIn z))
+  -- said of checks: of two products of one group, two prices, each between its product's limits, are both within or both not
+  pub coupled : (s : Start) (cs : List Call) (vs : List Seen) (z : List ℕ) → ImageRun s cs vs z
+      → (p q i j m n x y : ℕ) (v w : Verdict) → groupOf p ≡ groupOf q
+      → BetweenLimits (view (bookIn z)) p m x → BetweenLimits (view (bookIn z)) q n y
+      → answerTo z (check p i m x) ≡ checked v → answerTo z (check q j n y) ≡ checked w → isWithin v ≡ isWithin w
   -- two lists with the same founding limits that agree on the accepted openings and ends and on one group's sheets of each day:
   -- the same day is open after both, or none
   pub sameDay :

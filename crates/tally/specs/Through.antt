@@ -1,4 +1,4 @@
--- TalliedCall through one tally, one after another, whatever is asked and answered; and what is shown of every list of them, in proofs/Proved.antt.
+-- Checks through one tally, one after another, whatever is asked and answered; and what is shown of every list of them, in proofs/Proved.antt.
 use Prim.Native.Nat.{ℕ, _+_}
 use mathlib.Core.Path.{_≡_}
 use mathlib.Core.Bool.{Bool, true, false, not, cond, _&&_}

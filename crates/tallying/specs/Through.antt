@@ -1,4 +1,4 @@
--- TalliedCall on books through one tally, one after another: what is shown of every list of them is the tally's own theorem (ThroughOneTally).
+-- Checks on books through one tally, one after another: what is shown of every list of them is the tally's own theorem (ThroughOneTally).
 use Prim.Native.Nat.{ℕ}
 use Rattle.record.specs.Record.{Answer, refused}
 use Rattle.record.specs.Theorems.{isRefusal}
