@@ -10,13 +10,19 @@ ghost use Rattle.image.specs.Image.{flagWord};
 ghost use Rattle.image.specs.Answers.{wordsOfEvent, wordsOfGroupEvent};
 use crate::flags::flag_word;
 use crate::places::EVENT_WORDS;
-use crate::places::HELD;
-use crate::places::QUIET;
-use crate::places::RAISED;
-use crate::places::REVERTED;
-use crate::places::TRIGGERED;
 use record::Event;
 use record::GroupEvent;
+
+// The kinds of an event, as include/botskhela.h names them.
+const QUIET: u32 = 0;
+
+const TRIGGERED: u32 = 1;
+
+const HELD: u32 = 2;
+
+const REVERTED: u32 = 3;
+
+const RAISED: u32 = 4;
 
 pub(crate) fn put_renewed(out: &mut [u32], renewed: [bool; 8])
     requires { ⌜ length (now out) ≡ 8 ⌝ }

@@ -45,14 +45,3 @@ pub const RENEWED: usize = LAST + 8 * SHEET_WORDS;
 pub const EVENTS: usize = RENEWED + 8;
 
 pub const WORDS: usize = EVENTS + 6 * EVENT_WORDS;
-
-// The kinds of an event.
-pub const QUIET: u32 = 0;
-
-pub const TRIGGERED: u32 = 1;
-
-pub const HELD: u32 = 2;
-
-pub const REVERTED: u32 = 3;
-
-pub const RAISED: u32 = 4;
