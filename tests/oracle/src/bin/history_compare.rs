@@ -1,9 +1,10 @@
 //! Compares a replay program with this implementation: `history_compare PROGRAM [EXAMPLES_DIR]`.
 
-use std::path::{Path, PathBuf};
+use std::env;
+use std::path::PathBuf;
 use std::process::ExitCode;
-use std::{env, fs, io};
 
+use oracle::testing::files;
 use oracle::testing::history::coverage::{self, Coverage};
 use oracle::testing::history::jobs::{self, Job, Outcome, Trial};
 use oracle::testing::program::{Program, OF_HISTORIES};
@@ -30,7 +31,7 @@ fn main() -> ExitCode {
     let mut score = Score::default();
     let mut jobs = vec![Job::AllDays];
     if let Some(folder) = examples {
-        match examples_in(folder) {
+        match files::with_extension(folder, "history") {
             Ok(files) => jobs.extend(files.into_iter().map(Job::Example)),
             Err(error) => score.fail(&format!("{}: {error}", folder.display())),
         }
@@ -40,25 +41,6 @@ fn main() -> ExitCode {
     let outcomes = share_out(WORKERS, &jobs, tool, jobs::run);
     report(&outcomes, &mut score);
     score.finish()
-}
-
-/// The shipped histories, by name; none is an error.
-fn examples_in(folder: &Path) -> io::Result<Vec<PathBuf>> {
-    let mut files = Vec::new();
-    for entry in fs::read_dir(folder)? {
-        let path = entry?.path();
-        if path
-            .extension()
-            .is_some_and(|extension| extension == "history")
-        {
-            files.push(path);
-        }
-    }
-    files.sort();
-    match files.is_empty() {
-        true => Err(io::Error::other("there is no history")),
-        false => Ok(files),
-    }
 }
 
 fn drawn_jobs() -> Vec<Job> {
