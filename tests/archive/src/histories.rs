@@ -1,73 +1,70 @@
-//! The histories that `replay` is compared on, through the archive.
+//! Every history that `replay` is compared on, through the archive.
 
-use std::fs;
 use std::path::Path;
 
-use oracle::book::GROUP_COUNT;
 use oracle::testing::files;
-use oracle::testing::history::{days, garbage, scenario, side_by_side};
+use oracle::testing::history::jobs::{self, Job};
 use oracle::testing::score::Score;
+use oracle::testing::workers::share_out;
 
 use crate::archive::Archive;
-use crate::through;
+use crate::through::{self, Outcome};
 
-const HISTORIES: u64 = 140;
-const PAIRS_A_GROUP: u64 = 2;
-const PIECES: u64 = 1_000;
-const DAYS: usize = 2_000;
-const CHECKS_A_DAY: usize = 2;
+const WORKERS: usize = 2;
+
+/// A job, and what came of each of its histories.
+type Done<'a> = (&'a Job, Vec<Outcome>);
 
 pub fn compare(examples: &Path, score: &mut Score) {
-    let mut archive = Archive::new();
-    match files::with_extension(examples, "history") {
-        Ok(files) => files
-            .iter()
-            .for_each(|file| example(&mut archive, file, score)),
-        Err(error) => score.fail(&format!("{}: {error}", examples.display())),
-    }
-    let first_days = [days::days(CHECKS_A_DAY, DAYS)];
-    all(&mut archive, "history of days", first_days, score);
-    let generated = (0..HISTORIES).map(|seed| scenario::history(seed).text);
-    all(&mut archive, "generated histories", generated, score);
-    let pairs = (0..GROUP_COUNT)
-        .flat_map(|group| (0..PAIRS_A_GROUP).map(move |seed| side_by_side::pair(group, seed)));
-    let sides = pairs.flat_map(|pair| pair.sides).map(|side| side.text);
-    all(&mut archive, "histories of pairs", sides, score);
-    let pieces = (0..PIECES).map(garbage::piece);
-    all(&mut archive, "pieces of garbage", pieces, score);
-}
-
-fn example(archive: &mut Archive, file: &Path, score: &mut Score) {
-    let name = format!("example {}", file.display());
-    match fs::read(file) {
-        Ok(history) => {
-            let outcome = through::compare(archive, &history);
-            let calls = outcome.calls;
-            let test = format!("{name} through the archive, {calls} calls");
-            score.one(&test, outcome.failure);
+    let files = files::with_extension(examples, "history").unwrap_or_else(|error| {
+        score.fail(&format!("{}: {error}", examples.display()));
+        Vec::new()
+    });
+    let jobs = jobs::all(files);
+    let outcomes = share_out(WORKERS, &jobs, Archive::new, run);
+    let done: Vec<Done> = jobs.iter().zip(outcomes).collect();
+    for part in jobs::SINGLE {
+        for one in of(part, &done) {
+            one_test(&one.0.name(), [one], score);
         }
-        Err(error) => score.fail(&format!("{name}: {error}")),
+    }
+    for part in jobs::DRAWN {
+        one_test(part, of(part, &done), score);
     }
 }
 
-/// One test over all histories of a kind; the first that fails is told.
-fn all(
-    archive: &mut Archive,
-    kind: &str,
-    histories: impl IntoIterator<Item = Vec<u8>>,
-    score: &mut Score,
-) {
-    let outcomes = histories
-        .into_iter()
-        .map(|history| through::compare(archive, &history));
-    let outcomes: Vec<through::Outcome> = outcomes.collect();
-    let calls: usize = outcomes.iter().map(|outcome| outcome.calls).sum();
-    let failures: Vec<Option<String>> = outcomes
-        .into_iter()
-        .map(|outcome| outcome.failure)
-        .collect();
-    score.all(
-        &format!("{kind} through the archive, {calls} calls"),
-        &failures,
+/// The histories of a job through the archive.
+fn run(archive: &mut Archive, job: &Job) -> Vec<Outcome> {
+    match job.histories() {
+        Ok(histories) => histories
+            .iter()
+            .map(|history| through::compare(archive, history))
+            .collect(),
+        Err(error) => vec![Outcome {
+            calls: 0,
+            failure: Some(error.to_string()),
+        }],
+    }
+}
+
+fn of<'a>(part: &'a str, done: &'a [Done]) -> impl Iterator<Item = &'a Done<'a>> {
+    done.iter().filter(move |(job, _)| job.part() == part)
+}
+
+/// One test over all histories of some jobs; the first that fails is told.
+fn one_test<'a>(what: &str, done: impl IntoIterator<Item = &'a Done<'a>>, score: &mut Score) {
+    let (mut histories, mut calls, mut failure) = (0, 0, None);
+    for (job, outcomes) in done {
+        for outcome in outcomes {
+            histories += 1;
+            calls += outcome.calls;
+            let named = |why: &String| format!("{}: {why}", job.name());
+            failure = failure.or(outcome.failure.as_ref().map(named));
+        }
+    }
+    let nothing = (histories == 0).then(|| "no history".to_string());
+    score.one(
+        &format!("{what} through the archive, histories: {histories}, calls: {calls}"),
+        failure.or(nothing),
     );
 }

@@ -101,7 +101,7 @@ impl<'a> Run<'a> {
         }
     }
 
-    /// Two tests: that nothing differed, and that every answer was reached, 1 only by images that can be unsound.
+    /// Two tests: that nothing differed, and that every answer was reached, 1 only where images can be unsound.
     fn score(self, kind: &str, can_be_unsound: bool, score: &mut Score) {
         let first = self.first.unwrap_or_default();
         let failure = format!("{} differ, the first: {first}", self.differences);

@@ -6,17 +6,12 @@ use std::process::ExitCode;
 
 use oracle::testing::files;
 use oracle::testing::history::coverage::{self, Coverage};
-use oracle::testing::history::jobs::{self, Job, Outcome, Trial};
+use oracle::testing::history::jobs::{self, Outcome, Trial};
 use oracle::testing::program::{Program, OF_HISTORIES};
 use oracle::testing::score::Score;
 use oracle::testing::workers::share_out;
 
 const WORKERS: usize = 2;
-const HISTORIES: u64 = 350;
-const PIECES: u64 = 10_000;
-const PIECES_A_JOB: u64 = 50;
-const PAIRS_A_GROUP: u64 = 14;
-const GROUPS: usize = 6;
 
 fn main() -> ExitCode {
     let arguments: Vec<PathBuf> = env::args_os().skip(1).map(PathBuf::from).collect();
@@ -29,29 +24,18 @@ fn main() -> ExitCode {
         }
     };
     let mut score = Score::default();
-    let mut jobs = vec![Job::AllDays];
+    let mut files = Vec::new();
     if let Some(folder) = examples {
         match files::with_extension(folder, "history") {
-            Ok(files) => jobs.extend(files.into_iter().map(Job::Example)),
+            Ok(found) => files = found,
             Err(error) => score.fail(&format!("{}: {error}", folder.display())),
         }
     }
-    jobs.extend(drawn_jobs());
+    let jobs = jobs::all(files);
     let tool = || Program::within(program, OF_HISTORIES);
     let outcomes = share_out(WORKERS, &jobs, tool, jobs::run);
     report(&outcomes, &mut score);
     score.finish()
-}
-
-fn drawn_jobs() -> Vec<Job> {
-    let generated = (0..HISTORIES).map(Job::Generated);
-    let garbage = (0..PIECES / PIECES_A_JOB).map(|job| Job::Garbage {
-        first: job * PIECES_A_JOB,
-        count: PIECES_A_JOB,
-    });
-    let pairs = (0..GROUPS)
-        .flat_map(|group| (0..PAIRS_A_GROUP).map(move |seed| Job::SideBySide { group, seed }));
-    generated.chain(pairs).chain(garbage).collect()
 }
 
 /// Scores each part, then what the generated histories reached.
