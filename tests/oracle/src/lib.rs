@@ -7,6 +7,7 @@ pub mod bare;
 pub mod book;
 pub mod dates;
 pub mod history;
+pub mod image;
 pub mod prices;
 pub mod products;
 pub mod refusal;

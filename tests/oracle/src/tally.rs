@@ -1,4 +1,4 @@
-//! A gateway's tally of the bare checks through it.
+//! A gateway's tally of the checks through it.
 
 use crate::bare;
 use crate::bare::Order;
@@ -45,14 +45,19 @@ impl Tally {
         }
     }
 
-    /// A bare check through the tally: its own refusals change nothing.
-    pub fn check(&mut self, order: &Order) -> u32 {
+    /// Any check through the tally: its own refusals come first and change nothing.
+    pub fn through(&mut self, check: impl FnOnce() -> u32) -> u32 {
         if let Some(number) = self.refusal() {
             return number;
         }
-        let answer = bare::number(order);
+        let answer = check();
         self.count(answer);
         answer
+    }
+
+    /// A bare check through the tally.
+    pub fn check(&mut self, order: &Order) -> u32 {
+        self.through(|| bare::number(order))
     }
 }
 

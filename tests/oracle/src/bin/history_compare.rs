@@ -1,21 +1,17 @@
 //! Compares a replay program with this implementation: `history_compare PROGRAM [EXAMPLES_DIR]`.
 
-use std::path::{Path, PathBuf};
+use std::env;
+use std::path::PathBuf;
 use std::process::ExitCode;
-use std::{env, fs, io};
 
+use oracle::testing::files;
 use oracle::testing::history::coverage::{self, Coverage};
-use oracle::testing::history::jobs::{self, Job, Outcome, Trial};
+use oracle::testing::history::jobs::{self, Outcome, Trial};
 use oracle::testing::program::{Program, OF_HISTORIES};
 use oracle::testing::score::Score;
 use oracle::testing::workers::share_out;
 
 const WORKERS: usize = 2;
-const HISTORIES: u64 = 350;
-const PIECES: u64 = 10_000;
-const PIECES_A_JOB: u64 = 50;
-const PAIRS_A_GROUP: u64 = 14;
-const GROUPS: usize = 6;
 
 fn main() -> ExitCode {
     let arguments: Vec<PathBuf> = env::args_os().skip(1).map(PathBuf::from).collect();
@@ -28,48 +24,18 @@ fn main() -> ExitCode {
         }
     };
     let mut score = Score::default();
-    let mut jobs = vec![Job::AllDays];
+    let mut files = Vec::new();
     if let Some(folder) = examples {
-        match examples_in(folder) {
-            Ok(files) => jobs.extend(files.into_iter().map(Job::Example)),
+        match files::with_extension(folder, "history") {
+            Ok(found) => files = found,
             Err(error) => score.fail(&format!("{}: {error}", folder.display())),
         }
     }
-    jobs.extend(drawn_jobs());
+    let jobs = jobs::all(files);
     let tool = || Program::within(program, OF_HISTORIES);
     let outcomes = share_out(WORKERS, &jobs, tool, jobs::run);
     report(&outcomes, &mut score);
     score.finish()
-}
-
-/// The shipped histories, by name; none is an error.
-fn examples_in(folder: &Path) -> io::Result<Vec<PathBuf>> {
-    let mut files = Vec::new();
-    for entry in fs::read_dir(folder)? {
-        let path = entry?.path();
-        if path
-            .extension()
-            .is_some_and(|extension| extension == "history")
-        {
-            files.push(path);
-        }
-    }
-    files.sort();
-    match files.is_empty() {
-        true => Err(io::Error::other("there is no history")),
-        false => Ok(files),
-    }
-}
-
-fn drawn_jobs() -> Vec<Job> {
-    let generated = (0..HISTORIES).map(Job::Generated);
-    let garbage = (0..PIECES / PIECES_A_JOB).map(|job| Job::Garbage {
-        first: job * PIECES_A_JOB,
-        count: PIECES_A_JOB,
-    });
-    let pairs = (0..GROUPS)
-        .flat_map(|group| (0..PAIRS_A_GROUP).map(move |seed| Job::SideBySide { group, seed }));
-    generated.chain(pairs).chain(garbage).collect()
 }
 
 /// Scores each part, then what the generated histories reached.

@@ -2,9 +2,10 @@
 
 use std::path::{Path, PathBuf};
 use std::process::ExitCode;
-use std::{env, fs, io};
+use std::{env, fs};
 
 use oracle::testing::case::{self, Case};
+use oracle::testing::files;
 use oracle::testing::program::{Delivery, Program};
 use oracle::testing::score::{difference, Score};
 
@@ -16,26 +17,13 @@ fn main() -> ExitCode {
     };
     let mut program = Program::new(program);
     let mut score = Score::default();
-    match case_files(folder) {
+    match files::with_extension(folder, "txt") {
         Ok(files) => files
             .iter()
             .for_each(|file| run(&mut program, file, &mut score)),
         Err(error) => score.fail(&format!("{}: {error}", folder.display())),
     }
     score.finish()
-}
-
-/// The stored cases, by name.
-fn case_files(folder: &Path) -> io::Result<Vec<PathBuf>> {
-    let mut files = Vec::new();
-    for entry in fs::read_dir(folder)? {
-        let path = entry?.path();
-        if path.extension().is_some_and(|extension| extension == "txt") {
-            files.push(path);
-        }
-    }
-    files.sort();
-    Ok(files)
 }
 
 fn run(program: &mut Program, file: &Path, score: &mut Score) {

@@ -10,7 +10,7 @@ pub mod sound;
 pub mod window;
 
 #[cfg(test)]
-mod by_hand;
+pub mod by_hand;
 #[cfg(test)]
 mod end_tests;
 #[cfg(test)]

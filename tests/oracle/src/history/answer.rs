@@ -4,11 +4,14 @@ use super::call::{self, Call};
 use super::show;
 use crate::bare::{self, Order, Verdict};
 use crate::book::end::Event;
-use crate::book::Book;
+use crate::book::opening::NewLimits;
+use crate::book::{Book, GROUP_COUNT};
 use crate::refusal::Refusal;
 
 pub const NOT_A_CALL: &str = "not a call";
 pub const NO_BOOK: &str = "no book";
+pub const FOUNDED: &str = "founded";
+pub const FILED: &str = "filed";
 
 /// Answers a line on a book, if one was founded; None where the line is passed over.
 pub fn answer_line(book: &mut Option<Book>, line: &[u8]) -> Option<String> {
@@ -26,35 +29,44 @@ pub fn answer(book: &mut Option<Book>, call: &Call) -> String {
     let outcome = match (call, book.as_mut()) {
         (Call::Found(limits), _) => Book::found(*limits).map(|founded| {
             *book = Some(founded);
-            "founded".to_string()
+            FOUNDED.to_string()
         }),
         (Call::Bare(numbers), _) => bare::check(&Order::from(*numbers)).map(verdict),
         (_, None) => Ok(NO_BOOK.to_string()),
         (call, Some(book)) => answer_of(book, call),
     };
-    outcome.unwrap_or_else(|refusal| format!("refused {}", refusal.number()))
+    outcome.unwrap_or_else(|refusal| refused(refusal.number()))
 }
 
 /// Answers a call that needs a book.
 fn answer_of(book: &mut Book, call: &Call) -> Result<String, Refusal> {
     match call {
-        Call::Open([year, month, day, left]) => {
-            let renewed = book.open(*year, *month, *day, *left)?;
-            Ok(words(
-                "opened",
-                renewed.map(|one| u32::from(one).to_string()),
-            ))
-        }
+        Call::Open([year, month, day, left]) => Ok(opened(book.open(*year, *month, *day, *left)?)),
         Call::Sheet(sheet) => {
             book.file(sheet.product, &sheet.months, &sheet.settlements)?;
-            Ok("filed".to_string())
+            Ok(FILED.to_string())
         }
-        Call::End => Ok(words("ended", book.end()?.map(event))),
+        Call::End => Ok(ended(book.end()?)),
         Call::Check([product, size, month, price]) => {
             Ok(verdict(book.check(*product, *size, *month, *price)?))
         }
         _ => Ok(show::book(book)),
     }
+}
+
+/// The line of an accepted opening.
+pub fn opened(renewed: NewLimits) -> String {
+    words("opened", renewed.map(|one| u32::from(one).to_string()))
+}
+
+/// The line of an accepted end.
+pub fn ended(events: [Event; GROUP_COUNT]) -> String {
+    words("ended", events.map(event))
+}
+
+/// The line of a refused call.
+pub fn refused(number: u32) -> String {
+    format!("refused {number}")
 }
 
 fn words(first: &str, others: impl IntoIterator<Item = String>) -> String {
@@ -76,7 +88,8 @@ fn event(event: Event) -> String {
     }
 }
 
-fn verdict(verdict: Verdict) -> String {
+/// The line of an accepted check.
+pub fn verdict(verdict: Verdict) -> String {
     let word = match verdict {
         Verdict::Free => "free",
         Verdict::Within => "within",

@@ -3,6 +3,7 @@
 pub mod case;
 pub mod damage;
 pub mod draw;
+pub mod files;
 pub mod history;
 pub mod program;
 pub mod random;

@@ -1,11 +1,12 @@
 //! The tests of a replay program, in jobs that threads share.
 
-use std::fs;
 use std::path::{Path, PathBuf};
+use std::{fs, io};
 
 use super::compare::{answered_lines, difference, lines};
 use super::coverage::Coverage;
 use super::{days, garbage, scenario, side_by_side};
+use crate::book::GROUP_COUNT;
 use crate::history::replay::answers;
 use crate::testing::program::{Delivery, Program};
 
@@ -42,6 +43,10 @@ pub struct Outcome {
     pub coverage: Coverage,
 }
 
+const HISTORIES: u64 = 350;
+const PIECES: u64 = 10_000;
+const PIECES_A_JOB: u64 = 50;
+const PAIRS_A_GROUP: u64 = 14;
 const CHECKS_A_DAY: usize = 2;
 
 const ALL_DAYS: &str = "all days";
@@ -56,22 +61,78 @@ pub const SINGLE: [&str; 2] = [ALL_DAYS, EXAMPLE];
 /// The parts that are one test over many histories.
 pub const DRAWN: [&str; 3] = [GENERATED, SIDE_BY_SIDE, GARBAGE];
 
-/// Runs a job with a program under test.
-pub fn run(program: &mut Program, job: &Job) -> Outcome {
-    match job {
-        Job::AllDays => all_days(program),
-        Job::Generated(seed) => generated(program, *seed),
-        Job::Example(path) => example(program, path),
-        Job::Garbage { first, count } => garbage_from(program, *first, *count),
-        Job::SideBySide { group, seed } => side_by_side(program, *group, *seed),
+/// All days, the examples, and all that is drawn.
+pub fn all(examples: Vec<PathBuf>) -> Vec<Job> {
+    let examples = examples.into_iter().map(Job::Example);
+    let generated = (0..HISTORIES).map(Job::Generated);
+    let garbage = (0..PIECES / PIECES_A_JOB).map(|job| Job::Garbage {
+        first: job * PIECES_A_JOB,
+        count: PIECES_A_JOB,
+    });
+    let pairs = (0..GROUP_COUNT)
+        .flat_map(|group| (0..PAIRS_A_GROUP).map(move |seed| Job::SideBySide { group, seed }));
+    let drawn = generated.chain(pairs).chain(garbage);
+    [Job::AllDays]
+        .into_iter()
+        .chain(examples)
+        .chain(drawn)
+        .collect()
+}
+
+impl Job {
+    /// The kind of job.
+    pub fn part(&self) -> &'static str {
+        match self {
+            Job::AllDays => ALL_DAYS,
+            Job::Generated(_) => GENERATED,
+            Job::Example(_) => EXAMPLE,
+            Job::Garbage { .. } => GARBAGE,
+            Job::SideBySide { .. } => SIDE_BY_SIDE,
+        }
+    }
+
+    pub fn name(&self) -> String {
+        match self {
+            Job::AllDays => ALL_DAYS.to_string(),
+            Job::Generated(seed) => format!("seed {seed}"),
+            Job::Example(path) => format!("{EXAMPLE} {}", path.display()),
+            Job::Garbage { first, count } => format!("{count} seeds from {first} on"),
+            Job::SideBySide { group, seed } => format!("group {group}, seed {seed}"),
+        }
+    }
+
+    /// The histories that the job is about.
+    pub fn histories(&self) -> io::Result<Vec<Vec<u8>>> {
+        Ok(match self {
+            Job::AllDays => vec![days::all_days(CHECKS_A_DAY)],
+            Job::Generated(seed) => vec![scenario::history(*seed).text],
+            Job::Example(path) => vec![fs::read(path)?],
+            Job::Garbage { first, count } => (*first..first + count).map(garbage::piece).collect(),
+            Job::SideBySide { group, seed } => {
+                let sides = side_by_side::pair(*group, *seed).sides;
+                sides.map(|side| side.text).into()
+            }
+        })
     }
 }
 
-fn one(part: &'static str, name: String, failure: Option<String>) -> Outcome {
+/// Runs a job with a program under test.
+pub fn run(program: &mut Program, job: &Job) -> Outcome {
+    match job {
+        Job::AllDays => one(job, all_days(program)),
+        Job::Generated(seed) => generated(program, job, *seed),
+        Job::Example(path) => one(job, example(program, path)),
+        Job::Garbage { first, count } => garbage_from(program, *first, *count),
+        Job::SideBySide { group, seed } => one(job, side_by_side(program, *group, *seed)),
+    }
+}
+
+/// The outcome of a job that is one trial.
+fn one(job: &Job, failure: Option<String>) -> Outcome {
     Outcome {
         trials: vec![Trial {
-            part,
-            name,
+            part: job.part(),
+            name: job.name(),
             failure,
         }],
         coverage: Coverage::default(),
@@ -86,33 +147,31 @@ fn compare(program: &mut Program, history: &[u8], expected: &[u8]) -> Option<Str
     }
 }
 
-fn generated(program: &mut Program, seed: u64) -> Outcome {
+fn generated(program: &mut Program, job: &Job, seed: u64) -> Outcome {
     let history = scenario::history(seed);
     let failure = compare(program, &history.text, &answers(&history.text));
     Outcome {
         coverage: history.coverage,
-        ..one(GENERATED, format!("seed {seed}"), failure)
+        ..one(job, failure)
     }
 }
 
-fn example(program: &mut Program, path: &Path) -> Outcome {
-    let failure = match fs::read(path) {
+fn example(program: &mut Program, path: &Path) -> Option<String> {
+    match fs::read(path) {
         Ok(history) => compare(program, &history, &answers(&history)),
         Err(error) => Some(error.to_string()),
-    };
-    one(EXAMPLE, format!("{EXAMPLE} {}", path.display()), failure)
+    }
 }
 
 /// No call of all days is refused, by this implementation or by the program.
-fn all_days(program: &mut Program) -> Outcome {
+fn all_days(program: &mut Program) -> Option<String> {
     let history = days::all_days(CHECKS_A_DAY);
     let expected = answers(&history);
     let is_refused = |line: &&[u8]| line.starts_with(b"refused") || line.starts_with(b"no");
-    let failure = match lines(&expected).iter().find(|line| is_refused(line)) {
+    match lines(&expected).iter().find(|line| is_refused(line)) {
         Some(_) => Some("a call of the history itself is refused".to_string()),
         None => compare(program, &history, &expected),
-    };
-    one(ALL_DAYS, ALL_DAYS.to_string(), failure)
+    }
 }
 
 fn garbage_from(program: &mut Program, first: u64, count: u64) -> Outcome {
@@ -141,16 +200,14 @@ fn survive(program: &mut Program, piece: &[u8]) -> Option<String> {
     difference(piece, &answers(piece), &output).or(miscounted)
 }
 
-fn side_by_side(program: &mut Program, group: usize, seed: u64) -> Outcome {
+fn side_by_side(program: &mut Program, group: usize, seed: u64) -> Option<String> {
     let pair = side_by_side::pair(group, seed);
     let outputs = pair
         .sides
         .each_ref()
         .map(|side| program.output_of(&side.text, Delivery::Whole));
-    let failure = match outputs {
+    match outputs {
         [Ok(first), Ok(second)] => pair.difference([&first, &second]),
         [Err(error), _] | [_, Err(error)] => Some(error),
-    };
-    let name = format!("group {group}, seed {seed}");
-    one(SIDE_BY_SIDE, name, failure)
+    }
 }

@@ -47,7 +47,8 @@ fn common(random: &mut Random) -> Temper {
     }
 }
 
-fn market(random: &mut Random) -> Market {
+/// Listings of every kind, and a mood on every day.
+pub fn market(random: &mut Random) -> Market {
     Market {
         customs: std::array::from_fn(|product| custom(random, product)),
         driver: None,

@@ -1,0 +1,202 @@
+//! Every call on images of four kinds.
+
+use oracle::book::Book;
+use oracle::history::call::Call;
+use oracle::image::calls::ACCEPTED;
+use oracle::image::{Image, BOOK_WORDS, WORDS};
+use oracle::testing::random::Random;
+use oracle::testing::score::Score;
+
+use crate::bases::{self, Base};
+use crate::compare::{Compared, Comparer};
+use crate::draw;
+use crate::fields::{Field, PARTS};
+use crate::noise;
+use crate::odd;
+use crate::reached::{Reached, ANSWERS, OUTCOMES, UNSOUND};
+use crate::values::wrong_values;
+
+const SEED: u64 = 20_241_101;
+
+/// Of each kind that is drawn.
+const DRAWN: usize = 20_000;
+
+/// Every answer of every call has to be reached so often, by the images of each kind.
+const LEAST: u64 = 20;
+
+/// The images of one kind, and what came of the calls on them.
+struct Run<'a> {
+    comparer: &'a mut Comparer,
+    random: Random,
+    images: usize,
+    calls: usize,
+    differences: usize,
+    first: Option<String>,
+    reached: Reached,
+}
+
+impl<'a> Run<'a> {
+    fn new(comparer: &'a mut Comparer) -> Run<'a> {
+        Run {
+            comparer,
+            random: Random::new(SEED),
+            images: 0,
+            calls: 0,
+            differences: 0,
+            first: None,
+            reached: Reached::default(),
+        }
+    }
+
+    /// Makes every call on an image, and gives what its check returns.
+    fn image(&mut self, image: &Image, book: &Book, name: impl Fn() -> String) -> u32 {
+        self.images += 1;
+        for call in draw::changes(&mut self.random, book) {
+            self.change(image, &call, &name);
+        }
+        let order = draw::order(&mut self.random, book);
+        let checked = self.comparer.check(image, order);
+        let number = checked.number;
+        self.note("check", checked, || {
+            format!("check {order:?} on {}", name())
+        });
+        let order = draw::order(&mut self.random, book);
+        let mut tally = draw::sound_tally(&mut self.random);
+        let tallied = self.comparer.tallied(&mut tally, image, order);
+        self.note("tallied check", tallied, || {
+            format!("tallied check {order:?} on {}", name())
+        });
+        number
+    }
+
+    fn change(&mut self, image: &Image, call: &Call, name: impl Fn() -> String) {
+        let (compared, after) = self.comparer.change(image, call);
+        if compared.number == ACCEPTED {
+            self.note_outcome(call, &after);
+        }
+        self.note(name_of(call), compared, || {
+            format!("{call:?} on {}", name())
+        });
+    }
+
+    fn note_outcome(&mut self, call: &Call, after: &Image) {
+        match call {
+            Call::Open(_) => {
+                (after.renewed.iter()).for_each(|&one| self.reached.count("renewed", one))
+            }
+            Call::End => {
+                (after.events.iter()).for_each(|one| self.reached.count("event", one.kind))
+            }
+            _ => {}
+        }
+    }
+
+    fn note(&mut self, call: &'static str, compared: Compared, shown: impl Fn() -> String) {
+        self.calls += 1;
+        self.reached.count(call, compared.number);
+        if let Some(difference) = compared.difference {
+            self.differences += 1;
+            self.first
+                .get_or_insert_with(|| format!("{}: {difference}", shown()));
+        }
+    }
+
+    /// Two tests: that nothing differed, and that every answer was reached, 1 only where images can be unsound.
+    fn score(self, kind: &str, can_be_unsound: bool, score: &mut Score) {
+        let first = self.first.unwrap_or_default();
+        let failure = format!("{} differ, the first: {first}", self.differences);
+        score.one(
+            &format!("{} {kind}, {} calls", self.images, self.calls),
+            (self.differences > 0).then_some(failure),
+        );
+        let calls = self.reached.judge(&ANSWERS, |number, times| match number {
+            UNSOUND if !can_be_unsound => times == 0,
+            _ => times >= LEAST,
+        });
+        let outcomes = self.reached.judge(&OUTCOMES, |_, times| times >= LEAST);
+        score.one(&format!("{kind} reach every answer"), calls.or(outcomes));
+    }
+}
+
+fn name_of(call: &Call) -> &'static str {
+    match call {
+        Call::Found(_) => "found",
+        Call::Open(_) => "open",
+        Call::Sheet(_) => "sheet",
+        Call::End => "end",
+        Call::Check(_) => "check",
+        Call::Bare(_) | Call::Book => "no call on a book",
+    }
+}
+
+/// Draws an image, and a sound book that calls on it are drawn from.
+type Draw = fn(&mut Random, &[Base]) -> (Image, Book);
+
+/// What is drawn, and whether it can be unsound.
+const KINDS: [(&str, bool, Draw); 3] = [
+    ("images with two wrong words", true, two_wrong_words),
+    ("images of random bytes", true, noise::image),
+    ("sound images that no calls make", false, |random, _| {
+        odd::image(random)
+    }),
+];
+
+pub fn compare(comparer: &mut Comparer, bases: &[Base], score: &mut Score) {
+    one_wrong_word(comparer, bases, score);
+    for (name, can_be_unsound, draw) in KINDS {
+        let mut run = Run::new(comparer);
+        let mut random = Random::new(SEED);
+        for number in 0..DRAWN {
+            let (image, book) = draw(&mut random, bases);
+            run.image(&image, &book, || format!("number {number}"));
+        }
+        run.score(name, can_be_unsound, score);
+    }
+}
+
+/// Every word of every base, with each of its wrong values.
+fn one_wrong_word(comparer: &mut Comparer, bases: &[Base], score: &mut Score) {
+    let mut run = Run::new(comparer);
+    let mut refused = [0; WORDS];
+    for base in bases {
+        for (word, refused) in refused.iter_mut().enumerate() {
+            for value in wrong_values(&base.image, word) {
+                let mut image = base.image;
+                image.words_mut()[word] = value;
+                let name = || format!("{} with {:?} {value}", base.name, Field::of(word));
+                let number = run.image(&image, &base.book, name);
+                *refused += usize::from(number == UNSOUND);
+            }
+        }
+    }
+    run.score("images with one wrong word", true, score);
+    score.one(
+        "each word of the book is refused for some value, and no other",
+        not_judged(&refused),
+    );
+}
+
+/// The words that are never refused though they hold the book, or refused though they do not.
+fn not_judged(refused: &[usize; WORDS]) -> Option<String> {
+    let wrong = (0..WORDS).filter(|&word| (refused[word] > 0) != (word < BOOK_WORDS));
+    let wrong: Vec<String> = wrong.map(|word| format!("{:?}", Field::of(word))).collect();
+    (!wrong.is_empty()).then(|| format!("not {}", wrong.join(", ")))
+}
+
+fn two_wrong_words(random: &mut Random, bases: &[Base]) -> (Image, Book) {
+    let base = bases::draw(random, bases);
+    let mut image = base.image;
+    for _ in 0..2 {
+        let word = word_of_some_part(random);
+        let values = wrong_values(&image, word);
+        image.words_mut()[word] = random.pick(&values);
+    }
+    (image, base.book.clone())
+}
+
+/// Small parts are drawn as often as large ones.
+fn word_of_some_part(random: &mut Random) -> usize {
+    let part = random.below(PARTS.len());
+    let end = PARTS.get(part + 1).copied().unwrap_or(BOOK_WORDS);
+    PARTS[part] + random.below(end - PARTS[part])
+}

@@ -1,0 +1,77 @@
+//! How often calls answered what, and whether each answer was reached often enough.
+
+use std::collections::BTreeMap;
+
+pub const UNSOUND: u32 = 1;
+
+/// A call, or what one brings about, and the numbers that it can give.
+pub type Range = (&'static str, &'static [u32]);
+
+/// What each call can return.
+pub const ANSWERS: [Range; 6] = [
+    ("found", &[0, 13]),
+    ("open", &[0, UNSOUND, 2, 3, 4]),
+    ("sheet", &[0, UNSOUND, 2, 5, 11, 6, 7, 8, 9, 10]),
+    ("end", &[0, UNSOUND, 2, 12]),
+    ("check", CHECK),
+    ("tallied check", CHECK),
+];
+
+pub const CHECK: &[u32] = &[100, 101, 102, 103, UNSOUND, 2, 5, 14, 8];
+
+/// What accepted openings and ends put in: whether a product got new limits, and a group's event.
+pub const OUTCOMES: [Range; 2] = [("renewed", &[0, 1]), ("event", &[0, 1, 2, 3, 4])];
+
+#[derive(Default)]
+pub struct Reached {
+    counts: BTreeMap<(&'static str, u32), u64>,
+}
+
+impl Reached {
+    pub fn count(&mut self, what: &'static str, number: u32) {
+        *self.counts.entry((what, number)).or_insert(0) += 1;
+    }
+
+    pub fn times(&self, what: &'static str, number: u32) -> u64 {
+        self.counts.get(&(what, number)).copied().unwrap_or(0)
+    }
+
+    /// Prints the counts, and names those that are not what they should be.
+    pub fn judge(&self, wanted: &[Range], is_enough: impl Fn(u32, u64) -> bool) -> Option<String> {
+        let mut wrong = Vec::new();
+        for (what, numbers) in wanted {
+            let counts = numbers
+                .iter()
+                .map(|&number| (number, self.times(what, number)));
+            let counts: Vec<(u32, u64)> = counts.collect();
+            let shown: Vec<String> = counts.iter().map(shown).collect();
+            println!("    {what:13} {}", shown.join(", "));
+            let few = counts
+                .iter()
+                .filter(|(number, times)| !is_enough(*number, *times));
+            wrong.extend(few.map(|count| format!("{what} {}", self::shown(count))));
+        }
+        (!wrong.is_empty()).then(|| wrong.join(", "))
+    }
+}
+
+fn shown((number, times): &(u32, u64)) -> String {
+    format!("{number}: {times}")
+}
+
+#[cfg(test)]
+mod tests {
+    use super::*;
+
+    #[test]
+    fn a_rare_answer_is_named() {
+        let mut reached = Reached::default();
+        for _ in 0..3 {
+            reached.count("found", 0);
+        }
+        reached.count("found", 13);
+        assert_eq!(reached.judge(&ANSWERS[..1], |_, times| times >= 1), None);
+        let rare = reached.judge(&ANSWERS[..1], |_, times| times >= 2);
+        assert_eq!(rare.as_deref(), Some("found 13: 1"));
+    }
+}

@@ -1,0 +1,220 @@
+//! The layout by the header's words, images there and back, and what each call leaves in one.
+
+use std::mem::offset_of;
+
+use super::*;
+use crate::book::by_hand::{Trial, JULY, LIMITS};
+use crate::book::{Book, Level, Standing};
+use crate::tally::Tally;
+
+/// On its second day, with two sheets in.
+fn open_book() -> Book {
+    let mut trial = Trial::new(LIMITS);
+    trial.open();
+    trial.file(0);
+    trial.file(7);
+    trial.book
+}
+
+/// Words that no call may write, since no call answers them.
+const KEPT: [u32; 8] = [7, 0, 1, 2, 3, 4, 5, u32::MAX];
+
+fn damaged(damage: impl Fn(&mut Image)) -> Image {
+    let mut image = Image::of(&open_book());
+    image.renewed = KEPT;
+    damage(&mut image);
+    image
+}
+
+/// Every call but a founding answers 1 and leaves the very words.
+fn assert_unsound(image: &Image, what: &str) {
+    let mut after = *image;
+    assert_eq!(after.open([2024, 6, 28, 0]), 1, "{what}");
+    assert_eq!(after.sheet(9, &[], &[]), 1, "{what}");
+    assert_eq!(after.end(), 1, "{what}");
+    assert_eq!(after.check([9, 9, 0, 0]), 1, "{what}");
+    assert_eq!(after, *image, "{what}");
+}
+
+#[test]
+fn fields_lie_where_the_header_says() {
+    let offsets = [
+        (offset_of!(Image, format), 0),
+        (offset_of!(Image, is_open), 1),
+        (offset_of!(Image, year), 2),
+        (offset_of!(Image, month), 3),
+        (offset_of!(Image, day), 4),
+        (offset_of!(Image, left), 5),
+        (offset_of!(Image, limits), 6),
+        (offset_of!(Image, standings), 22),
+        (offset_of!(Image, windows.counts), 34),
+        (offset_of!(Image, windows.settlements), 42),
+        (offset_of!(Image, today), 402),
+        (offset_of!(Image, last), 666),
+        (offset_of!(Image, renewed), BOOK_WORDS),
+        (offset_of!(Image, events), 938),
+        (size_of::<Image>(), WORDS),
+    ];
+    for (offset, word) in offsets {
+        assert_eq!(offset, 4 * word);
+    }
+}
+
+#[test]
+fn a_book_is_read_as_it_was_written() {
+    let mut trial = Trial::new(LIMITS);
+    let ended = trial.book.clone();
+    trial.open();
+    (0..8).for_each(|product| trial.file(product));
+    let fresh = Book::found(LIMITS).expect("fit limits");
+    for book in [fresh, ended, open_book(), trial.book] {
+        assert_eq!(Image::of(&book).book(), Some(book));
+    }
+}
+
+#[test]
+fn another_format_or_flag_holds_no_book() {
+    assert_unsound(&Image::from_words([0; WORDS]), "zeros");
+    assert_unsound(&Image::from_words([1; WORDS]), "ones");
+    for word in [0, 2, 1 << 24, u32::MAX] {
+        let image = damaged(|image| image.format = word);
+        assert_eq!(image.book(), None, "format {word}");
+        assert_unsound(&image, "format");
+    }
+    for word in [2, 256, u32::MAX] {
+        let flags = [
+            damaged(|image| image.is_open = word),
+            damaged(|image| image.standings[0].expanded = word),
+            damaged(|image| image.standings[5].marked = word),
+        ];
+        for image in flags {
+            assert_eq!(image.book(), None, "flag {word}");
+            assert_unsound(&image, "flag");
+        }
+    }
+}
+
+#[test]
+fn counts_beyond_their_places_are_unsound() {
+    for beyond in [46, 1 << 16, u32::MAX] {
+        let images = [
+            damaged(|image| image.windows.counts[3] = beyond),
+            damaged(|image| image.today[7].count = beyond),
+            damaged(|image| image.last[0].count = beyond),
+        ];
+        for image in images {
+            assert!(image.book().is_some_and(|book| !book.is_sound()));
+            assert_unsound(&image, "count");
+        }
+    }
+    assert_unsound(&damaged(|image| image.today[7].count = 17), "17 contracts");
+}
+
+#[test]
+fn a_date_is_none_where_all_its_words_are_0() {
+    let mut fresh = Image::of(&Book::found(LIMITS).expect("fit limits"));
+    assert_eq!(fresh.book().and_then(|book| book.date), None);
+    fresh.day = 1;
+    assert_unsound(&fresh, "a day alone");
+    fresh.day = 0;
+    fresh.left = 1;
+    assert_unsound(&fresh, "left alone");
+}
+
+#[test]
+fn places_from_a_count_on_mean_nothing() {
+    let image = damaged(|image| {
+        image.windows.settlements[1][1..].fill(u32::MAX);
+        image.today[1].contracts[0].month = 5;
+        image.last[0].contracts[10].settlement = 3;
+    });
+    assert_eq!(image.book(), Some(open_book()));
+    assert_ne!(image.without_unused(), image);
+    assert_eq!(image.without_unused(), damaged(|_| ()).without_unused());
+}
+
+#[test]
+fn a_founding_looks_at_nothing_and_leaves_zeros() {
+    let mut image = Image::from_words([u32::MAX; WORDS]);
+    let before = image;
+    assert_eq!(image.found([1; 8]), 13);
+    assert_eq!(image, before);
+    assert_eq!(image.found(LIMITS), 0);
+    assert_eq!(image, Image::of(&Book::found(LIMITS).expect("fit limits")));
+    assert_eq!(
+        (image.renewed, image.new_limits()),
+        ([0; 8], Some([false; 8]))
+    );
+}
+
+#[test]
+fn an_opening_sets_renewed_alone() {
+    let mut book = Trial::new(LIMITS).book;
+    book.date = Some([2024, 10, 31]);
+    book.left = 0;
+    book.windows[7] = vec![3_000; 45];
+    let mut image = Image::of(&book);
+    image.renewed = KEPT;
+    image.events[0].kind = 77;
+    assert_eq!(image.open([2024, 11, 1, 20]), 0);
+    assert_eq!(image.renewed, [0, 0, 0, 0, 0, 0, 0, 1]);
+    assert_eq!(image.events[0].kind, 77);
+    assert_eq!((image.is_open, image.year, image.left), (1, 2024, 20));
+    assert_eq!(image.limits[7].initial, 210);
+}
+
+#[test]
+fn an_end_sets_events_alone_and_moves_the_sheets() {
+    let mut trial = Trial::new(LIMITS);
+    trial.book.standings[0] = Standing {
+        level: Level::Expanded,
+        marked: true,
+    };
+    trial.open();
+    trial.settlements[0][9] += 320;
+    trial.settlements[2][1] += 200;
+    (0..8).for_each(|product| trial.file(product));
+    let mut image = Image::of(&trial.book);
+    image.renewed = KEPT;
+    assert_eq!(image.end(), 0);
+    let lead = |place: usize, product: usize| trial.months[product][place];
+    let words = |kind, month, product| EventWords {
+        kind,
+        month,
+        product,
+    };
+    assert_eq!(image.events[0], words(4, lead(9, 0), 0));
+    assert_eq!(image.events[1], words(1, lead(1, 2), 2));
+    assert_eq!(image.events[2], words(0, 0, 0));
+    assert_eq!(image.renewed, KEPT);
+    assert_eq!(image.last, Image::of(&trial.book).today);
+    assert!(image.today.iter().all(|sheet| sheet.count == 0));
+    assert_eq!((image.is_open, image.day), (0, 4));
+}
+
+#[test]
+fn words_that_no_call_answers_are_no_answer() {
+    assert_eq!(damaged(|_| ()).new_limits(), None);
+    assert!(damaged(|_| ()).last_events().is_some());
+    assert_eq!(
+        damaged(|image| image.events[2].kind = 5).last_events(),
+        None
+    );
+    assert_eq!(
+        damaged(|image| image.events[2].month = 5).last_events(),
+        None
+    );
+}
+
+#[test]
+fn a_check_through_a_tally_counts_the_books_own_1() {
+    let mut tally = Tally::default();
+    let image = damaged(|_| ());
+    assert_eq!(image.tallied_check(&mut tally, [0, 0, JULY, 6_200]), 101);
+    let unsound = damaged(|image| image.left = 27);
+    assert_eq!(unsound.tallied_check(&mut tally, [0, 0, JULY, 6_200]), 1);
+    assert_eq!((tally.asked, tally.within, tally.refused), (2, 1, 1));
+    tally.asked = 3;
+    assert_eq!(image.tallied_check(&mut tally, [0, 0, JULY, 6_200]), 1);
+    assert_eq!((tally.asked, tally.within, tally.refused), (3, 1, 1));
+}
