@@ -235,6 +235,9 @@ uint32_t botskhela_tallied_check(botskhela_tally *tally, uint32_t product, uint3
  *
  * The calls but the two checks return 0 where they are accepted. Refused, they return the first refusal that applies, in the
  * order given, and no byte of the book has changed. They return no other number.
+ *
+ * What is proved of each call stands in crates/gateway/specs/Calls.antt, and of whole lists of calls on one book in Images.antt:
+ * from an accepted founding on, every number, renewed, events and the book itself are those of the rule.
  */
 
 /*

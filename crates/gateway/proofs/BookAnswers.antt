@@ -1,10 +1,9 @@
 -- A check on a book answers no number that is the tally's own but 1, so that every answer of it is counted.
 use Prim.Native.Nat.{ℕ}
 use mathlib.Core.Path.{_≡_, refl, _∙_}
-use mathlib.Core.Bool.{Bool, true, false}
+use mathlib.Core.Bool.{false}
 use mathlib.Core.List.{List}
 use lib.Dec.{eqb}
-use Rattle.grain.specs.declared.check.Verdict.{Verdict}
 use Rattle.grain.specs.declared.check.Verdict.the-variants.{Free, Within, Below, Above}
 use Rattle.record.specs.Record.{check, Answer, refused, opened, filed, ended, checked}
 use Rattle.record.specs.Theorems.{isRefusal}

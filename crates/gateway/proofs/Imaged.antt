@@ -1,11 +1,11 @@
 -- The theorem over whole lists of calls on an image, proved; and what words with no book in them answer.
 use Prim.Native.Nat.{ℕ}
 use mathlib.Core.Path.{_≡_, refl, sym, _∙_, ap}
-use mathlib.Core.Bool.{Bool, true, false, not, cond}
+use mathlib.Core.Bool.{true, false, not}
 use mathlib.Core.List.{List, [], _∷_}
 use mathlib.Core.Option.{Option, some, none}
 use lib.Dec.{eqb}
-use Rattle.grain.specs.Lists.{_and_, every}
+use Rattle.grain.specs.Lists.{every}
 use Rattle.grain.specs.declared.check.Verdict.{Verdict}
 use Rattle.grain.specs.declared.check.Verdict.the-variants.{Free, Within, Below, Above}
 use Rattle.record.specs.Refusals.{unsound}
@@ -23,7 +23,7 @@ use Rattle.book.proofs.Unfounded.{no-book-unsound}
 use Rattle.history.proofs.Proved.{same-contents}
 use Rattle.image.specs.Image.{isImage, bookIn}
 use Rattle.image.specs.Answers.{renewedIn, eventsIn}
-use Rattle.gateway.specs.Calls.{answerNumber, renewedAfter, eventsAfter, answerTo, RespondsImage, imageCheck, noRenewed, noEvents, FoundsImage}
+use Rattle.gateway.specs.Calls.{answerNumber, renewedAfter, eventsAfter, answerTo, RespondsImage, imageCheck, noRenewed, noEvents}
 use Rattle.gateway.specs.Images.{Seen, sees, seenOf, ImageTrace, done, changes, checks, ImageRun, WholeImages, NoImage}
 use Rattle.gateway.proofs.Leaves.{fit-by}
 

@@ -1,11 +1,11 @@
 -- The book in the words of a book is that book, if its counts are within their places, as a sound book's are.
 use Prim.Native.Nat.{ℕ, suc, _<_, _≤_, _*_}
-use mathlib.Core.Path.{_≡_, refl, sym, _∙_, ap}
+use mathlib.Core.Path.{_≡_, refl, _∙_, ap}
 use mathlib.Core.Bool.{Bool, true, false}
 use mathlib.Core.List.{List, [], _∷_, _++_, map, append-assoc}
 use native.Mathlib.Omega.{arith}
-use lib.Dec.{eqb, ltb, leb}
-use lib.ListN.{length, getD, take, drop, List·getD-map}
+use lib.Dec.{eqb, leb}
+use lib.ListN.{length, getD, take, drop}
 use lib.Seq.{take-all}
 use borrow.Author.Tests.{le-leb}
 use Rattle.grain.specs.Lists.{_and_, every}
@@ -16,7 +16,7 @@ use Rattle.book.specs.declared.Standing.{Standing}
 use Rattle.book.specs.declared.Book.{Book}
 use Rattle.book.specs.Book.{noLimit, noStanding, noSheet, view}
 use Rattle.book.proofs.SoundFacts.{today-fits, last-fits, size-fits}
-use Rattle.image.specs.Places.{formatNumber, limitWords, standingWords, contractWords, sheetWords}
+use Rattle.image.specs.Places.{limitWords, standingWords, contractWords, sheetWords}
 use Rattle.image.specs.Places as at
 use Rattle.image.specs.Words.{part, flat, chunks}
 use Rattle.image.specs.Image.{flagWord, countWord, wordsOfHead, wordsOfLimit, wordsOfStanding, wordsOfContract, wordsOfSheet, wordsOfBook, isFlag, limitOf, standingOf, contractOf, sheetOf, asBook, isImage, bookIn}

@@ -5,3 +5,4 @@ pub mod Chunks
 pub mod Lengths
 pub mod Back
 pub mod Puts
+pub mod Cases

@@ -1,17 +1,17 @@
 -- A book and the answers behind it, written over any words: the image that is left, and that all of it is read back.
 use Prim.Native.Nat.{ℕ, _*_, _≤_}
-use mathlib.Core.Path.{_≡_, refl, sym, _∙_, ap}
+use mathlib.Core.Path.{_≡_, sym, _∙_, ap}
 use mathlib.Core.List.{List, [], _++_, append-assoc, append-nil}
 use native.Mathlib.Omega.{arith}
-use lib.ListN.{length, take, drop, length-append, length-drop, drop-of-length-le, take-append-drop}
-use lib.Seq.{take-all, drop-drop, length-take-le}
+use lib.ListN.{length, take, drop, length-drop, drop-of-length-le}
+use lib.Seq.{take-all, length-take-le}
 use borrow.Rule.Slice.PartMut.{putMid}
 use Rattle.book.specs.declared.Book.{Book}
 use Rattle.image.specs.Places.{eventWords}
 use Rattle.image.specs.Places as at
 use Rattle.image.specs.Image.{wordsOfBook, bookIn}
 use Rattle.image.specs.Answers.{renewedIn, eventsIn}
-use Rattle.image.specs.Put.{imageOf, Put, Shaped, BookPut}
+use Rattle.image.specs.Put.{imageOf, Put, BookPut}
 use Rattle.image.proofs.Begun.{Begun, begun-next, begun-more, part-is, after-part}
 use Rattle.image.proofs.Lengths.{book-long}
 use Rattle.image.proofs.Back.{back}

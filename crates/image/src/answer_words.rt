@@ -2,7 +2,7 @@
 ghost use denote.Ref.{now};
 ghost use Prim.Native.Nat.{_*_};
 ghost use mathlib.Core.Path.{_≡_};
-ghost use mathlib.Core.List.{[], _∷_, map};
+ghost use mathlib.Core.List.{map};
 ghost use lib.ListN.{length};
 ghost use Rattle.image.specs.Places.{eventWords};
 ghost use Rattle.image.specs.Words.{flat};

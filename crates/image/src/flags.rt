@@ -1,7 +1,6 @@
 // Flags as words: 0 or 1, and nothing else.
 ghost use denote.Ref.{now};
 ghost use mathlib.Core.Path.{_≡_};
-ghost use lib.ListN.{drop};
 ghost use Rattle.grain.specs.Lists.{every};
 ghost use Rattle.image.specs.Image.{flagWord, isFlag};
 

@@ -2,7 +2,6 @@
 ghost use denote.Ref.{now};
 ghost use Prim.Native.Nat.{_*_};
 ghost use mathlib.Core.Path.{_≡_};
-ghost use mathlib.Core.List.{[], _∷_};
 ghost use lib.ListN.{length};
 ghost use Rattle.image.specs.Places.{limitWords};
 ghost use Rattle.image.specs.Words.{flat, chunks};

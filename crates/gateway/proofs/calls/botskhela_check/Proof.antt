@@ -1,5 +1,4 @@
 use borrow.Author.Needs.{needs}
-use native.Mathlib.Omega.{arith}
 use mathlib.Core.Path.{_∙_, ap, subst}
 use Rattle.book.specs.declared.Book.{Book}
 use Rattle.checking.specs.Checks.{Checks}

@@ -1,5 +1,4 @@
 use borrow.Author.Needs.{needs}
-use native.Mathlib.Omega.{arith}
 use mathlib.Core.Path.{_≡_, refl, sym, ap, subst}
 use mathlib.Core.List.{List, [], _∷_, _++_}
 use borrow.Author.Tests.{eq-eqb}

@@ -1,5 +1,4 @@
 use borrow.Author.Needs.{needs}
-use native.Mathlib.Omega.{arith}
 use Rattle.gateway.proofs.Leaves.{refused-founding, accepted-founding}
 use Rattle.gateway.proofs.calls.botskhela_found.Statement.{statement}
 use Rattle.gateway.proofs.calls.botskhela_found.Tie as tie

@@ -1,5 +1,4 @@
 use borrow.Author.Needs.{needs}
-use native.Mathlib.Omega.{arith}
 use mathlib.Core.Path.{refl, subst}
 use borrow.Author.Tests.{eq-eqb}
 use Rattle.record.specs.Record.{opening}

@@ -1,5 +1,4 @@
 use borrow.Author.Needs.{needs}
-use native.Mathlib.Omega.{arith}
 use Rattle.gateway.proofs.TallyWords.{answered, tallied}
 use Rattle.gateway.proofs.tallied.botskhela_tallied_book_check.Statement.{statement}
 use Rattle.gateway.proofs.tallied.botskhela_tallied_book_check.Tie as tie

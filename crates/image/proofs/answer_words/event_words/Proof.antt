@@ -1,5 +1,4 @@
 use borrow.Author.Needs.{needs}
-use native.Mathlib.Omega.{arith}
 use Rattle.image.proofs.answer_words.event_words.Statement.{statement}
 use Rattle.image.proofs.answer_words.event_words.Tie as tie
 

@@ -1,5 +1,4 @@
 use borrow.Author.Needs.{needs}
-use native.Mathlib.Omega.{arith}
 use mathlib.Core.Path.{refl}
 use Rattle.image.specs.Places as at
 use Rattle.image.specs.Image.{wordsOfBook}

@@ -1,5 +1,4 @@
 use borrow.Author.Needs.{needs}
-use native.Mathlib.Omega.{arith}
 use borrow.Author.Tests.{le-leb, lt-leb}
 use Rattle.image.proofs.counts.count_word.Statement.{statement}
 use Rattle.image.proofs.counts.count_word.Tie as tie

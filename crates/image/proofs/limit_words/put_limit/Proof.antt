@@ -1,5 +1,4 @@
 use borrow.Author.Needs.{needs}
-use native.Mathlib.Omega.{arith}
 use Rattle.image.specs.Image.{wordsOfLimit}
 use Rattle.image.proofs.Sets.{all-set}
 use Rattle.image.proofs.limit_words.put_limit.Statement.{statement}

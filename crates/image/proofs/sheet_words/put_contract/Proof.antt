@@ -1,5 +1,4 @@
 use borrow.Author.Needs.{needs}
-use native.Mathlib.Omega.{arith}
 use Rattle.image.specs.Image.{wordsOfContract}
 use Rattle.image.proofs.Sets.{all-set}
 use Rattle.image.proofs.sheet_words.put_contract.Statement.{statement}

@@ -1,5 +1,4 @@
 use borrow.Author.Needs.{needs}
-use native.Mathlib.Omega.{arith}
 use Rattle.image.specs.Image.{sheetOf}
 use Rattle.image.proofs.sheet_words.sheet_in.Statement.{statement}
 use Rattle.image.proofs.sheet_words.sheet_in.Tie as tie

@@ -1,5 +1,4 @@
 use borrow.Author.Needs.{needs}
-use native.Mathlib.Omega.{arith}
 use Rattle.image.specs.Image.{wordsOfStanding}
 use Rattle.image.proofs.Sets.{all-set}
 use Rattle.image.proofs.standing_words.put_standing.Statement.{statement}

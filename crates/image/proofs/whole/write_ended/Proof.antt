@@ -1,5 +1,4 @@
 use borrow.Author.Needs.{needs}
-use native.Mathlib.Omega.{arith}
 use Rattle.image.specs.Words.{flat}
 use Rattle.image.specs.Answers.{wordsOfGroupEvent}
 use Rattle.image.proofs.Lengths.{events-long}

@@ -1,5 +1,4 @@
 use borrow.Author.Needs.{needs}
-use native.Mathlib.Omega.{arith}
 use Rattle.image.proofs.Puts.{filed-put}
 use Rattle.image.proofs.whole.write_filed.Statement.{statement}
 use Rattle.image.proofs.whole.write_filed.Tie as tie

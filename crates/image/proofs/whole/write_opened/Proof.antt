@@ -1,5 +1,4 @@
 use borrow.Author.Needs.{needs}
-use native.Mathlib.Omega.{arith}
 use mathlib.Core.Path.{_∙_}
 use mathlib.Core.List.{map}
 use lib.ListN.{length-map}
