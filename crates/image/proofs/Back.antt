@@ -1,29 +1,30 @@
 -- The book in the words of a book is that book, if its counts are within their places, as a sound book's are.
 use Prim.Native.Nat.{ℕ, suc, _<_, _≤_, _*_}
-use mathlib.Core.Path.{_≡_, refl, _∙_, ap}
+use mathlib.Core.Path.{_≡_, refl, ap}
 use mathlib.Core.Bool.{Bool, true, false}
 use mathlib.Core.List.{List, [], _∷_, _++_, map, append-assoc}
 use native.Mathlib.Omega.{arith}
 use lib.Dec.{eqb, leb}
 use lib.ListN.{length, getD, take, drop}
-use lib.Seq.{take-all}
+use lib.Seq.{take-all, take-at, drop-at}
 use borrow.Author.Tests.{le-leb}
 use Rattle.grain.specs.Lists.{_and_, every}
 use Rattle.record.specs.Sound.{isSound}
 use Rattle.sheets.specs.declared.Sheet.{Sheet}
 use Rattle.sheets.specs.Sheets.{noContract}
+use Rattle.windows.specs.declared.Windows.{Windows}
 use Rattle.book.specs.declared.Standing.{Standing}
 use Rattle.book.specs.declared.Book.{Book}
 use Rattle.book.specs.Book.{noLimit, noStanding, noSheet, view}
 use Rattle.book.proofs.SoundFacts.{today-fits, last-fits, size-fits}
-use Rattle.image.specs.Places.{limitWords, standingWords, contractWords, sheetWords}
+use Rattle.image.specs.Places.{limitWords, standingWords, windowsWords, contractWords, sheetWords}
 use Rattle.image.specs.Places as at
 use Rattle.image.specs.Words.{part, flat, chunks}
-use Rattle.image.specs.Image.{flagWord, countWord, wordsOfHead, wordsOfLimit, wordsOfStanding, wordsOfContract, wordsOfSheet, wordsOfBook, isFlag, limitOf, standingOf, contractOf, sheetOf, asBook, isImage, bookIn}
-use Rattle.image.specs.Put.{SheetsPut, Shaped}
+use Rattle.image.specs.Image.{flagWord, countWord, wordsOfHead, wordsOfLimit, wordsOfStanding, wordsOfWindows, wordsOfContract, wordsOfSheet, wordsOfBook, isFlag, limitOf, standingOf, windowsOf, contractOf, sheetOf, asBook, isImage, bookIn}
+use Rattle.image.specs.Put.{SheetsPut, WindowsPut, Shaped}
 use Rattle.image.proofs.Begun.{part-is, after-part}
 use Rattle.image.proofs.Chunks.{flat-sized, chunks-back}
-use Rattle.image.proofs.Lengths.{sheets-sized, sheets-long, limits-long, standings-long, sizes-long}
+use Rattle.image.proofs.Lengths.{sheets-sized, sheets-long, limits-long, standings-long, sizes-long, windows-long}
 
 flag-is : (b : Bool) → isFlag (flagWord b) ≡ true
 flag-is true = refl
@@ -59,6 +60,14 @@ sheets-back : (ss : List Sheet) → SheetsPut ss → ((p : ℕ) → p < 8 → ge
 sheets-back ss s e =
     chunks-back wordsOfSheet sheetWords noSheet sheetOf 8 ss (s .all) (sheets-sized ss s) (λ q h. sheet-back (getD ss q noSheet) (s .each q h) (e q h))
 
+-- the windows
+windows-of-words : (w : Windows) → WindowsPut w → ((p : ℕ) → p < 8 → getD (w .sizes) p 0 ≤ 45) → windowsOf (wordsOfWindows w) ≡ w
+unfolding windowsOf wordsOfWindows
+windows-of-words w s e =
+    let long = sizes-long w s in
+    let fits : length (w .settlements) ≤ 8 * 45 = omega (arith, s .settlements) in
+    rw (take-at (map (countWord 45) (w .sizes)) (w .settlements) 8 long, drop-at (map (countWord 45) (w .sizes)) (w .settlements) 8 long, take-all (8 * 45) (w .settlements) fits, counts-back (w .sizes) (λ p h. e p (rw (s .sizes) at h)))
+
 module _ (b : Book) (s : Shaped b) (rest : List ℕ) where
   abbrev ws : List ℕ
   ws = wordsOfBook b ++ rest
@@ -70,14 +79,11 @@ module _ (b : Book) (s : Shaped b) (rest : List ℕ) where
   abbrev from-today : List ℕ
   from-today = flat wordsOfSheet (b .today) ++ from-last
 
-  abbrev from-settlements : List ℕ
-  from-settlements = b .windows .settlements ++ from-today
-
-  abbrev from-sizes : List ℕ
-  from-sizes = map (countWord 45) (b .windows .sizes) ++ from-settlements
+  abbrev from-windows : List ℕ
+  from-windows = wordsOfWindows (b .windows) ++ from-today
 
   abbrev from-standings : List ℕ
-  from-standings = flat wordsOfStanding (b .standings) ++ from-sizes
+  from-standings = flat wordsOfStanding (b .standings) ++ from-windows
 
   abbrev from-limits : List ℕ
   from-limits = flat wordsOfLimit (b .limits) ++ from-standings
@@ -92,20 +98,17 @@ module _ (b : Book) (s : Shaped b) (rest : List ℕ) where
   at-standings : drop at.standings ws ≡ from-standings
   at-standings = after-part ws (flat wordsOfLimit (b .limits)) from-standings at.limits _ at-limits (limits-long b s)
 
-  at-sizes : drop at.sizes ws ≡ from-sizes
-  at-sizes = after-part ws (flat wordsOfStanding (b .standings)) from-sizes at.standings _ at-standings (standings-long b s)
-
-  at-settlements : drop at.settlements ws ≡ from-settlements
-  at-settlements = after-part ws (map (countWord 45) (b .windows .sizes)) from-settlements at.sizes _ at-sizes (sizes-long b s)
+  at-windows : drop at.windows ws ≡ from-windows
+  at-windows = after-part ws (flat wordsOfStanding (b .standings)) from-windows at.standings _ at-standings (standings-long b s)
 
   at-today : drop at.today ws ≡ from-today
-  at-today = after-part ws (b .windows .settlements) from-today at.settlements _ at-settlements (s .settlements)
+  at-today = after-part ws (wordsOfWindows (b .windows)) from-today at.windows _ at-windows (windows-long (b .windows) (s .windows))
 
   at-last : drop at.last ws ≡ from-last
   at-last = after-part ws (flat wordsOfSheet (b .today)) from-last at.today _ at-today (sheets-long (b .today) (s .today))
 
   standings-part : part at.standings (6 * standingWords) ws ≡ flat wordsOfStanding (b .standings)
-  standings-part = part-is ws (flat wordsOfStanding (b .standings)) from-sizes at.standings _ at-standings (standings-long b s)
+  standings-part = part-is ws (flat wordsOfStanding (b .standings)) from-windows at.standings _ at-standings (standings-long b s)
 
   is-image : isImage ws ≡ true
   unfolding isImage _and_
@@ -124,13 +127,10 @@ module _ (b : Book) (s : Shaped b) (rest : List ℕ) where
         rw standings-part
         (chunks-back wordsOfStanding standingWords noStanding standingOf 6 (b .standings) (s .standings) (λ q h. refl) (λ q h. standing-back (getD (b .standings) q noStanding)))
 
-    sizes-back : part at.sizes 8 ws ≡ b .windows .sizes
-    sizes-back =
-        part-is ws (map (countWord 45) (b .windows .sizes)) from-settlements at.sizes 8 at-sizes (sizes-long b s)
-        ∙ counts-back (b .windows .sizes) (λ p h. size-fits b sound p (rw (s .sizes) at h))
-
-    settlements-back : part at.settlements (8 * 45) ws ≡ b .windows .settlements
-    settlements-back = part-is ws (b .windows .settlements) from-today at.settlements _ at-settlements (s .settlements)
+    windows-back : windowsOf (part at.windows windowsWords ws) ≡ b .windows
+    windows-back =
+        rw (part-is ws (wordsOfWindows (b .windows)) from-today at.windows _ at-windows (windows-long (b .windows) (s .windows)))
+        (windows-of-words (b .windows) (s .windows) (λ p h. size-fits b sound p h))
 
     today-back : chunks sheetWords sheetOf 8 (part at.today (8 * sheetWords) ws) ≡ b .today
     today-back =
@@ -144,7 +144,7 @@ module _ (b : Book) (s : Shaped b) (rest : List ℕ) where
 
     as-book : asBook ws ≡ b
     as-book =
-        rw (limits-back, standings-back, sizes-back, settlements-back, today-back, last-back, ap (λ l. getD l at.isOpen 0) in-parts, ap (λ l. getD l at.year 0) in-parts, ap (λ l. getD l at.month 0) in-parts, ap (λ l. getD l at.day 0) in-parts, ap (λ l. getD l at.left 0) in-parts, flag-back (b .«is_open»))
+        rw (limits-back, standings-back, windows-back, today-back, last-back, ap (λ l. getD l at.isOpen 0) in-parts, ap (λ l. getD l at.year 0) in-parts, ap (λ l. getD l at.month 0) in-parts, ap (λ l. getD l at.day 0) in-parts, ap (λ l. getD l at.left 0) in-parts, flag-back (b .«is_open»))
 
     pub back : bookIn ws ≡ b
     unfolding bookIn

@@ -8,15 +8,16 @@ use Rattle.record.specs.declared.Event.{Event}
 use Rattle.record.specs.declared.Event.the-variants.{Quiet, Triggered, Held, Reverted, Raised}
 use Rattle.record.specs.declared.GroupEvent.{GroupEvent}
 use Rattle.sheets.specs.declared.Sheet.{Sheet}
+use Rattle.windows.specs.declared.Windows.{Windows}
 use Rattle.sheets.specs.Sheets.{noContract}
 use Rattle.book.specs.declared.Book.{Book}
 use Rattle.book.specs.Book.{noLimit, noStanding, noSheet}
-use Rattle.image.specs.Places.{limitWords, standingWords, contractWords, sheetWords, eventWords}
+use Rattle.image.specs.Places.{limitWords, standingWords, windowsWords, contractWords, sheetWords, eventWords}
 use Rattle.image.specs.Places as at
 use Rattle.image.specs.Words.{flat}
-use Rattle.image.specs.Image.{countWord, wordsOfLimit, wordsOfStanding, wordsOfContract, wordsOfSheet, wordsOfBook}
+use Rattle.image.specs.Image.{countWord, wordsOfLimit, wordsOfStanding, wordsOfWindows, wordsOfContract, wordsOfSheet, wordsOfBook}
 use Rattle.image.specs.Answers.{wordsOfEvent, wordsOfGroupEvent}
-use Rattle.image.specs.Put.{SheetsPut, Shaped}
+use Rattle.image.specs.Put.{SheetsPut, WindowsPut, Shaped}
 use Rattle.image.proofs.Chunks.{Sized, flat-long, flat-sized}
 
 pub sheet-long : (s : Sheet) → length (s .contracts) ≡ 16 → length (wordsOfSheet s) ≡ sheetWords
@@ -40,6 +41,13 @@ events-sized es n q h = event-long (getD es q quiet .event)
 pub events-long : (es : List GroupEvent) → length es ≡ 6 → length (flat wordsOfGroupEvent es) ≡ 6 * eventWords
 events-long es e = flat-sized wordsOfGroupEvent eventWords quiet 6 es e (events-sized es 6)
 
+pub sizes-long : (w : Windows) → WindowsPut w → length (map (countWord 45) (w .sizes)) ≡ 8
+sizes-long w s = length-map (w .sizes) (countWord 45) ∙ s .sizes
+
+pub windows-long : (w : Windows) → WindowsPut w → length (wordsOfWindows w) ≡ windowsWords
+unfolding wordsOfWindows
+windows-long w s = length-append (map (countWord 45) (w .sizes)) (w .settlements) ∙ rw (sizes-long w s, s .settlements)
+
 pub sheets-sized : (ss : List Sheet) → SheetsPut ss → Sized wordsOfSheet sheetWords noSheet ss 8
 sheets-sized ss s q h = sheet-long (getD ss q noSheet) (s .each q h)
 
@@ -53,10 +61,7 @@ module _ (b : Book) (s : Shaped b) where
   pub standings-long : length (flat wordsOfStanding (b .standings)) ≡ 6 * standingWords
   standings-long = flat-sized wordsOfStanding standingWords noStanding 6 (b .standings) (s .standings) (λ q h. refl)
 
-  pub sizes-long : length (map (countWord 45) (b .windows .sizes)) ≡ 8
-  sizes-long = length-map (b .windows .sizes) (countWord 45) ∙ s .sizes
-
   pub book-long : length (wordsOfBook b) ≡ at.renewed
   unfolding wordsOfBook
   book-long =
-      simp (length-append, limits-long, standings-long, sizes-long, s .settlements, sheets-long (b .today) (s .today), sheets-long (b .last) (s .last))
+      simp (length-append, limits-long, standings-long, windows-long (b .windows) (s .windows), sheets-long (b .today) (s .today), sheets-long (b .last) (s .last))

@@ -3,7 +3,7 @@ use Prim.Native.Nat.{ℕ, _*_, _≤_}
 use mathlib.Core.Path.{_≡_, sym, _∙_, ap}
 use mathlib.Core.List.{List, [], _++_, append-assoc, append-nil}
 use native.Mathlib.Omega.{arith}
-use lib.ListN.{length, take, drop, length-drop, drop-of-length-le}
+use lib.ListN.{length, take, drop, length-drop}
 use lib.Seq.{take-all, length-take-le}
 use borrow.Rule.Slice.PartMut.{putMid}
 use Rattle.book.specs.declared.Book.{Book}
@@ -12,7 +12,7 @@ use Rattle.image.specs.Places as at
 use Rattle.image.specs.Image.{wordsOfBook, bookIn}
 use Rattle.image.specs.Answers.{renewedIn, eventsIn}
 use Rattle.image.specs.Put.{imageOf, Put, BookPut}
-use Rattle.image.proofs.Begun.{Begun, begun-next, begun-more, part-is, after-part}
+use Rattle.image.proofs.Begun.{Begun, begun-next, begun-all, begun-more, part-is, after-part}
 use Rattle.image.proofs.Lengths.{book-long}
 use Rattle.image.proofs.Back.{back}
 
@@ -30,9 +30,6 @@ module _ (ws : List ℕ) (long : length ws ≡ at.words) where
   renewed-long =
       let fits : 8 ≤ length (drop at.renewed ws) = rw (length-drop, long) (omega arith) in
       length-take-le 8 (drop at.renewed ws) fits
-
-  none-behind : drop at.words ws ≡ []
-  none-behind = let all : length ws ≤ at.words = omega arith in drop-of-length-le ws all
 
   module _ (b : Book) (now : List ℕ) (put : BookPut ws b now) where
     abbrev book-begun : Begun ws (wordsOfBook b) at.renewed now
@@ -70,8 +67,8 @@ module _ (ws : List ℕ) (long : length ws ≡ at.words) where
           → Put b rs es (putMid at.events (6 * eventWords) zs ys)
       to-the-end rs zs rs-long g =
           read-back rs es (putMid at.events (6 * eventWords) zs ys)
-          (begun-next ws (wordsOfBook b ++ rs) at.events (6 * eventWords) zs ys es g es-are es-long .is
-          ∙ rw (none-behind, append-nil) (append-assoc (wordsOfBook b) rs es))
+          (begun-all ws _ at.words _ (begun-next ws (wordsOfBook b ++ rs) at.events (6 * eventWords) zs ys es g es-are es-long) long
+          ∙ append-assoc (wordsOfBook b) rs es)
           rs-long es-long
 
       pub ended-put : Put b (renewedIn ws) es (putMid at.events (6 * eventWords) now ys)

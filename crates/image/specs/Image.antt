@@ -8,11 +8,12 @@ use Rattle.grain.specs.Lists.{_and_, every}
 use Rattle.record.specs.declared.Contract.{Contract}
 use Rattle.record.specs.declared.Day.{Day}
 use Rattle.sheets.specs.declared.Sheet.{Sheet}
+use Rattle.windows.specs.declared.Windows.{Windows}
 use Rattle.book.specs.declared.Limit.{Limit}
 use Rattle.book.specs.declared.Standing.{Standing}
 use Rattle.book.specs.declared.Book.{Book}
 use Rattle.book.specs.Founding.{noBook}
-use Rattle.image.specs.Places.{formatNumber, limitWords, standingWords, contractWords, sheetWords}
+use Rattle.image.specs.Places.{formatNumber, limitWords, standingWords, windowsWords, contractWords, sheetWords}
 use Rattle.image.specs.Places as at
 use Rattle.image.specs.Words.{part, flat, chunks}
 
@@ -33,6 +34,9 @@ wordsOfLimit l = l .initial ∷ l .expanded ∷ []
 abbrev pub wordsOfStanding : Standing → List ℕ
 wordsOfStanding s = flagWord (s .expanded) ∷ flagWord (s .marked) ∷ []
 
+unfoldable pub wordsOfWindows : Windows → List ℕ
+wordsOfWindows w = map (countWord 45) (w .sizes) ++ w .settlements
+
 abbrev pub wordsOfContract : Contract → List ℕ
 wordsOfContract c = c .month ∷ c .settlement ∷ []
 
@@ -44,8 +48,7 @@ wordsOfBook b =
     wordsOfHead (b .«is_open») (b .day)
     ++ flat wordsOfLimit (b .limits)
     ++ flat wordsOfStanding (b .standings)
-    ++ map (countWord 45) (b .windows .sizes)
-    ++ b .windows .settlements
+    ++ wordsOfWindows (b .windows)
     ++ flat wordsOfSheet (b .today)
     ++ flat wordsOfSheet (b .last)
 
@@ -58,6 +61,9 @@ limitOf ws = record { initial = getD ws 0 0; expanded = getD ws 1 0 }
 
 abbrev pub standingOf : List ℕ → Standing
 standingOf ws = record { expanded = eqb (getD ws 0 0) 1; marked = eqb (getD ws 1 0) 1 }
+
+unfoldable pub windowsOf : List ℕ → Windows
+windowsOf ws = record { settlements = part 8 (8 * 45) ws; sizes = part 0 8 ws }
 
 abbrev pub contractOf : List ℕ → Contract
 contractOf ws = record { month = getD ws 0 0; settlement = getD ws 1 0 }
@@ -74,7 +80,7 @@ asBook ws =
     record {
       limits = chunks limitWords limitOf 8 (part at.limits (8 * limitWords) ws);
       standings = chunks standingWords standingOf 6 (part at.standings (6 * standingWords) ws);
-      windows = record { settlements = part at.settlements (8 * 45) ws; sizes = part at.sizes 8 ws };
+      windows = windowsOf (part at.windows windowsWords ws);
       today = chunks sheetWords sheetOf 8 (part at.today (8 * sheetWords) ws);
       last = chunks sheetWords sheetOf 8 (part at.last (8 * sheetWords) ws);
       day = dayOf ws;

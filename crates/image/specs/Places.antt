@@ -11,6 +11,10 @@ limitWords = 2
 abbrev pub standingWords : ℕ
 standingWords = 2
 
+-- eight sizes and 360 settlements
+abbrev pub windowsWords : ℕ
+windowsWords = 8 + 8 * 45
+
 abbrev pub contractWords : ℕ
 contractWords = 2
 
@@ -46,14 +50,11 @@ limits = left + 1
 abbrev pub standings : ℕ
 standings = limits + 8 * limitWords
 
-abbrev pub sizes : ℕ
-sizes = standings + 6 * standingWords
-
-abbrev pub settlements : ℕ
-settlements = sizes + 8
+abbrev pub windows : ℕ
+windows = standings + 6 * standingWords
 
 abbrev pub today : ℕ
-today = settlements + 8 * 45
+today = windows + windowsWords
 
 abbrev pub last : ℕ
 last = today + 8 * sheetWords

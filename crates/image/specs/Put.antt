@@ -6,6 +6,7 @@ use mathlib.Core.List.{List, _++_}
 use lib.ListN.{length, getD, drop}
 use Rattle.record.specs.Sound.{isSound}
 use Rattle.sheets.specs.declared.Sheet.{Sheet}
+use Rattle.windows.specs.declared.Windows.{Windows}
 use Rattle.book.specs.declared.Book.{Book}
 use Rattle.book.specs.Book.{noSheet, view}
 use Rattle.image.specs.Places as at
@@ -28,11 +29,14 @@ pub record SheetsPut (sheets : List Sheet) : Type 0 where
   pub all : length sheets ≡ 8
   pub each : (p : ℕ) → p < 8 → length (getD sheets p noSheet .contracts) ≡ 16
 
+pub record WindowsPut (w : Windows) : Type 0 where
+  pub sizes : length (w .sizes) ≡ 8
+  pub settlements : length (w .settlements) ≡ 360
+
 pub record Shaped (b : Book) : Type 0 where
   pub limits : length (b .limits) ≡ 8
   pub standings : length (b .standings) ≡ 6
-  pub sizes : length (b .windows .sizes) ≡ 8
-  pub settlements : length (b .windows .settlements) ≡ 360
+  pub windows : WindowsPut (b .windows)
   pub today : SheetsPut (b .today)
   pub last : SheetsPut (b .last)
 

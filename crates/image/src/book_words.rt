@@ -14,13 +14,10 @@ use crate::sheet_words::put_sheets;
 use crate::sheet_words::sheets_in;
 use crate::standing_words::put_standings;
 use crate::standing_words::standings_in;
-use crate::window_words::put_settlements;
-use crate::window_words::put_sizes;
-use crate::window_words::settlements_in;
-use crate::window_words::sizes_in;
+use crate::window_words::put_windows;
+use crate::window_words::windows_in;
 use book::Book;
 use record::Day;
-use windows::Windows;
 
 fn is_image(w: &[u32]) -> bool
     requires { ⌜ length (now w) ≡ at.words ⌝ }
@@ -32,7 +29,7 @@ fn is_image(w: &[u32]) -> bool
     if 1 < w[places::IS_OPEN] {
         return false;
     }
-    are_flags(&w[places::STANDINGS..places::SIZES])
+    are_flags(&w[places::STANDINGS..places::WINDOWS])
 }
 
 // Words that are no image hold the book on which every call is refused with 1.
@@ -53,10 +50,8 @@ pub(crate) fn read_book(w: &[u32]) -> Book
     };
     let is_open = w[places::IS_OPEN] == 1;
     let limits = limits_in(&w[places::LIMITS..places::STANDINGS]);
-    let standings = standings_in(&w[places::STANDINGS..places::SIZES]);
-    let sizes = sizes_in(&w[places::SIZES..places::SETTLEMENTS]);
-    let settlements = settlements_in(&w[places::SETTLEMENTS..places::TODAY]);
-    let windows = Windows { settlements, sizes };
+    let standings = standings_in(&w[places::STANDINGS..places::WINDOWS]);
+    let windows = windows_in(&w[places::WINDOWS..places::TODAY]);
     let today = sheets_in(&w[places::TODAY..places::LAST]);
     let last = sheets_in(&w[places::LAST..places::RENEWED]);
     Book {
@@ -93,12 +88,9 @@ pub(crate) fn write_book(w: &mut [u32], b: Book)
     let limits = b.limits;
     put_limits(&mut w[places::LIMITS..places::STANDINGS], limits);
     let standings = b.standings;
-    put_standings(&mut w[places::STANDINGS..places::SIZES], standings);
+    put_standings(&mut w[places::STANDINGS..places::WINDOWS], standings);
     let windows = b.windows;
-    let sizes = windows.sizes;
-    put_sizes(&mut w[places::SIZES..places::SETTLEMENTS], sizes);
-    let settlements = windows.settlements;
-    put_settlements(&mut w[places::SETTLEMENTS..places::TODAY], settlements);
+    put_windows(&mut w[places::WINDOWS..places::TODAY], windows);
     let today = b.today;
     put_sheets(&mut w[places::TODAY..places::LAST], today);
     let last = b.last;

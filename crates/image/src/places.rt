@@ -7,6 +7,9 @@ pub const LIMIT_WORDS: usize = 2;
 
 pub const STANDING_WORDS: usize = 2;
 
+// Eight sizes and 360 settlements.
+pub const WINDOWS_WORDS: usize = 8 + 8 * 45;
+
 pub const CONTRACT_WORDS: usize = 2;
 
 // A count and 16 contracts.
@@ -31,11 +34,9 @@ pub const LIMITS: usize = LEFT + 1;
 
 pub const STANDINGS: usize = LIMITS + 8 * LIMIT_WORDS;
 
-pub const SIZES: usize = STANDINGS + 6 * STANDING_WORDS;
+pub const WINDOWS: usize = STANDINGS + 6 * STANDING_WORDS;
 
-pub const SETTLEMENTS: usize = SIZES + 8;
-
-pub const TODAY: usize = SETTLEMENTS + 8 * 45;
+pub const TODAY: usize = WINDOWS + WINDOWS_WORDS;
 
 pub const LAST: usize = TODAY + 8 * SHEET_WORDS;
 

@@ -42,14 +42,14 @@ returns c =
 shared-slice-read-is-open : tie.Need-shared-slice-read-is-open
 shared-slice-read-is-open c = search needs
 
+shared-slice-read-t17 : tie.Need-shared-slice-read-t17
+shared-slice-read-t17 c = search needs
+
 shared-slice-read-t19 : tie.Need-shared-slice-read-t19
 shared-slice-read-t19 c = search needs
 
 shared-slice-read-t21 : tie.Need-shared-slice-read-t21
 shared-slice-read-t21 c = search needs
-
-shared-slice-read-t23 : tie.Need-shared-slice-read-t23
-shared-slice-read-t23 c = search needs
 
 shared-slice-read-is-open-2 : tie.Need-shared-slice-read-is-open-2
 shared-slice-read-is-open-2 c = search needs
@@ -78,29 +78,17 @@ part-standings-in-end c = search needs
 standings-in-requires : tie.Need-standings-in-requires
 standings-in-requires c κs = search needs
 
-sub-sizes-in : tie.Need-sub-sizes-in
-sub-sizes-in c = search needs
+sub-windows-in : tie.Need-sub-windows-in
+sub-windows-in c = search needs
 
-part-sizes-in-start : tie.Need-part-sizes-in-start
-part-sizes-in-start c = search needs
+part-windows-in-start : tie.Need-part-windows-in-start
+part-windows-in-start c = search needs
 
-part-sizes-in-end : tie.Need-part-sizes-in-end
-part-sizes-in-end c = search needs
+part-windows-in-end : tie.Need-part-windows-in-end
+part-windows-in-end c = search needs
 
-sizes-in-requires : tie.Need-sizes-in-requires
-sizes-in-requires c κs = search needs
-
-sub-settlements-in : tie.Need-sub-settlements-in
-sub-settlements-in c = search needs
-
-part-settlements-in-start : tie.Need-part-settlements-in-start
-part-settlements-in-start c = search needs
-
-part-settlements-in-end : tie.Need-part-settlements-in-end
-part-settlements-in-end c = search needs
-
-settlements-in-requires : tie.Need-settlements-in-requires
-settlements-in-requires c κs = search needs
+windows-in-requires : tie.Need-windows-in-requires
+windows-in-requires c κs = search needs
 
 sub-sheets-in : tie.Need-sub-sheets-in
 sub-sheets-in c = search needs
@@ -130,12 +118,11 @@ returns-2 : tie.Need-returns-2
 returns-2 c =
     let l = c .before .before in
     let w = l .before .before in
-    let n = w .before .before in
-    let s = n .before .before in
+    let s = w .before .before in
     let i = s .before .before in
     let k = i .before .before .before .before .before .before .before in
     let yes = sym (k .before .is-image .ensures) ∙ not-false _ (k .if1 .left) in
-    rw (c .sheets-in2 .ensures, l .sheets-in .ensures, w .settlements-in .ensures, n .sizes-in .ensures, s .standings-in .ensures, i .limits-in .ensures)
+    rw (c .sheets-in2 .ensures, l .sheets-in .ensures, w .windows-in .ensures, s .standings-in .ensures, i .limits-in .ensures)
     (held-in (k .before .before .before .args .w .now) yes)
 
 pub read-book-spec : {M : Type 1} → statement M
@@ -146,9 +133,9 @@ read-book-spec =
     found-requires
     returns
     shared-slice-read-is-open
+    shared-slice-read-t17
     shared-slice-read-t19
     shared-slice-read-t21
-    shared-slice-read-t23
     shared-slice-read-is-open-2
     sub-limits-in
     part-limits-in-start
@@ -158,14 +145,10 @@ read-book-spec =
     part-standings-in-start
     part-standings-in-end
     standings-in-requires
-    sub-sizes-in
-    part-sizes-in-start
-    part-sizes-in-end
-    sizes-in-requires
-    sub-settlements-in
-    part-settlements-in-start
-    part-settlements-in-end
-    settlements-in-requires
+    sub-windows-in
+    part-windows-in-start
+    part-windows-in-end
+    windows-in-requires
     sub-sheets-in
     part-sheets-in-start
     part-sheets-in-end

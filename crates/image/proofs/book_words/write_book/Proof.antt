@@ -4,7 +4,7 @@ use Rattle.image.specs.Places as at
 use Rattle.image.specs.Image.{wordsOfBook}
 use Rattle.image.specs.Put.{Shaped}
 use Rattle.image.proofs.Begun.{begun, begun-next}
-use Rattle.image.proofs.Lengths.{limits-long, standings-long, sizes-long, sheets-long}
+use Rattle.image.proofs.Lengths.{limits-long, standings-long, windows-long, sheets-long}
 use Rattle.image.proofs.book_words.write_book.Statement.{statement}
 use Rattle.image.proofs.book_words.write_book.Tie as tie
 
@@ -44,29 +44,17 @@ part-put-standings-end c = search needs
 put-standings-requires : tie.Need-put-standings-requires
 put-standings-requires c κs = search needs
 
-sub-put-sizes : tie.Need-sub-put-sizes
-sub-put-sizes c = search needs
+sub-put-windows : tie.Need-sub-put-windows
+sub-put-windows c = search needs
 
-part-put-sizes-start : tie.Need-part-put-sizes-start
-part-put-sizes-start c = search needs
+part-put-windows-start : tie.Need-part-put-windows-start
+part-put-windows-start c = search needs
 
-part-put-sizes-end : tie.Need-part-put-sizes-end
-part-put-sizes-end c = search needs
+part-put-windows-end : tie.Need-part-put-windows-end
+part-put-windows-end c = search needs
 
-put-sizes-requires : tie.Need-put-sizes-requires
-put-sizes-requires c κs = search needs
-
-sub-put-settlements : tie.Need-sub-put-settlements
-sub-put-settlements c = search needs
-
-part-put-settlements-start : tie.Need-part-put-settlements-start
-part-put-settlements-start c = search needs
-
-part-put-settlements-end : tie.Need-part-put-settlements-end
-part-put-settlements-end c = search needs
-
-put-settlements-requires : tie.Need-put-settlements-requires
-put-settlements-requires c κs = search needs
+put-windows-requires : tie.Need-put-windows-requires
+put-windows-requires c κs = search needs
 
 sub-put-sheets : tie.Need-sub-put-sheets
 sub-put-sheets c = search needs
@@ -101,22 +89,20 @@ returns c =
     let u = c .before .before in
     let t = u .before .before .before .before .before in
     let w = t .before .before .before .before .before in
-    let z = w .before .before .before .before .before in
-    let g = z .before .before .before .before .before .before in
+    let g = w .before .before .before .before .before in
     let l = g .before .before .before .before .before in
     let h = l .before .before .before .before .before in
     let k = h .before .before .before .before in
     let b = k .args .b in
     let s : Shaped b =
-    record { limits = l .put-limits .ensures .1; standings = g .put-standings .ensures .1; sizes = z .put-sizes .ensures .1; settlements = w .put-settlements .ensures .1; today = t .put-sheets .ensures .1; last = u .put-sheets2 .ensures .1 } in
+    record { limits = l .put-limits .ensures .1; standings = g .put-standings .ensures .1; windows = w .put-windows .ensures .1; today = t .put-sheets .ensures .1; last = u .put-sheets2 .ensures .1 } in
     let b0 = begun-next (k .args .w .now) _ at.format _ _ _ _ (begun (k .args .w .now)) (h .write-head .ensures) refl in
     let b1 = begun-next _ _ at.limits _ _ _ _ b0 (l .put-limits .ensures .0) (limits-long b s) in
     let b2 = begun-next _ _ at.standings _ _ _ _ b1 (g .put-standings .ensures .0) (standings-long b s) in
-    let b3 = begun-next _ _ at.sizes _ _ _ _ b2 (z .put-sizes .ensures .0) (sizes-long b s) in
-    let b4 = begun-next _ _ at.settlements _ _ _ _ b3 (w .put-settlements .ensures .0) (s .settlements) in
-    let b5 = begun-next _ _ at.today _ _ _ _ b4 (t .put-sheets .ensures .0) (sheets-long (b .today) (s .today)) in
-    let b6 = begun-next _ _ at.last _ _ _ _ b5 (u .put-sheets2 .ensures .0) (sheets-long (b .last) (s .last)) in
-    record { words = b6 .is; shaped = s }
+    let b3 = begun-next _ _ at.windows _ _ _ _ b2 (w .put-windows .ensures .0) (windows-long (b .windows) (s .windows)) in
+    let b4 = begun-next _ _ at.today _ _ _ _ b3 (t .put-sheets .ensures .0) (sheets-long (b .today) (s .today)) in
+    let b5 = begun-next _ _ at.last _ _ _ _ b4 (u .put-sheets2 .ensures .0) (sheets-long (b .last) (s .last)) in
+    record { words = b5 .is; shaped = s }
 
 pub write-book-spec : {M : Type 1} → statement M
 write-book-spec =
@@ -134,14 +120,10 @@ write-book-spec =
     part-put-standings-start
     part-put-standings-end
     put-standings-requires
-    sub-put-sizes
-    part-put-sizes-start
-    part-put-sizes-end
-    put-sizes-requires
-    sub-put-settlements
-    part-put-settlements-start
-    part-put-settlements-end
-    put-settlements-requires
+    sub-put-windows
+    part-put-windows-start
+    part-put-windows-end
+    put-windows-requires
     sub-put-sheets
     part-put-sheets-start
     part-put-sheets-end
