@@ -12,3 +12,4 @@ pub mod Views
 pub mod Groups
 pub mod Numbered
 pub mod Responses
+pub mod FoundingNumbers

@@ -1,31 +1,32 @@
 -- The theorem over whole lists of calls on an image, proved; and what words with no book in them answer.
 use Prim.Native.Nat.{ℕ}
-use mathlib.Core.Path.{_≡_, refl, sym, _∙_, ap}
+use mathlib.Core.Path.{_≡_, refl, _∙_, ap}
 use mathlib.Core.Bool.{true, false, not}
 use mathlib.Core.List.{List, [], _∷_}
 use mathlib.Core.Option.{Option, some, none}
+use native.Mathlib.Omega.{arith}
 use lib.Dec.{eqb}
 use Rattle.grain.specs.Lists.{every}
 use Rattle.grain.specs.declared.check.Verdict.{Verdict}
-use Rattle.grain.specs.declared.check.Verdict.the-variants.{Free, Within, Below, Above}
 use Rattle.record.specs.Refusals.{unsound}
 use Rattle.record.specs.State.{Record, groupOf, groupAt}
 use Rattle.record.specs.Founding.{Start, isFitStart, founded}
 use Rattle.record.specs.Sound.{isSound}
-use Rattle.record.specs.Record.{Call, check, Answer, refused, opened, filed, ended, checked, refusal, answer, answerBy, respond, stateAfter, answers}
+use Rattle.record.specs.Record.{Call, check, Answer, refused, checked, refusal, answer, answerBy, respond, stateAfter, answers}
 use Rattle.record.specs.History.{SameFor}
-use Rattle.record.specs.Theorems.{after, historyOf, isRefusal, BetweenLimits, isWithin}
+use Rattle.record.specs.Theorems.{after, historyOf, isRefusal}
 use Rattle.record.proofs.Proved.{theorems}
 use Rattle.book.specs.Book.{view}
+use Rattle.book.proofs.FoundingNumbers.{fit-by}
 use Rattle.book.proofs.Numbered.{unsound-refusal}
 use Rattle.book.proofs.Responses.{check-responds}
 use Rattle.book.proofs.Unfounded.{no-book-unsound}
-use Rattle.history.proofs.Proved.{same-contents}
+use Rattle.history.proofs.Agrees as agrees
 use Rattle.image.specs.Image.{isImage, bookIn}
 use Rattle.image.specs.Answers.{renewedIn, eventsIn}
 use Rattle.gateway.specs.Calls.{answerNumber, renewedAfter, eventsAfter, answerTo, RespondsImage, imageCheck, noRenewed, noEvents}
 use Rattle.gateway.specs.Images.{Seen, sees, seenOf, ImageTrace, done, changes, checks, ImageRun, WholeImages, NoImage}
-use Rattle.gateway.proofs.Leaves.{fit-by}
+use Rattle.gateway.proofs.Numbers.{number-of}
 
 -- ---- one call
 -- a check's answer leaves what stands beside the book
@@ -87,21 +88,11 @@ module _ (s : Start) (cs : List Call) (vs : List Seen) (z : List ℕ) (run : Ima
   contents-are = follows (run .trace) .contents ∙ ap (λ (r : Record). stateAfter r cs) (run .founds .state fit)
 
 -- no number is 1 where no answer is refusal 1
-number-of : (a : Answer) → eqb (answerNumber a) unsound ≡ isRefusal unsound a
-number-of (refused n) = refl
-number-of (opened l) = refl
-number-of filed = refl
-number-of (ended l) = refl
-number-of (checked Free) = refl
-number-of (checked Within) = refl
-number-of (checked Below) = refl
-number-of (checked Above) = refl
-
 numbers-are : (rs es : List ℕ) (l : List Answer)
     → every (λ v. not (eqb (v .number) unsound)) (seenOf rs es l) ≡ every (λ a. not (isRefusal unsound a)) l
 unfolding every seenOf
 numbers-are rs es [] = refl
-numbers-are rs es (a ∷ l) = rw (number-of a, numbers-are (renewedAfter a rs) (eventsAfter a es) l)
+numbers-are rs es (a ∷ l) = rw (number-of unsound (omega arith) (omega arith) a, numbers-are (renewedAfter a rs) (eventsAfter a es) l)
 
 never-unsound : (s : Start) (cs : List Call) (vs : List Seen) (z : List ℕ) → ImageRun s cs vs z
     → every (λ v. not (eqb (v .number) unsound)) vs ≡ true
@@ -110,39 +101,29 @@ never-unsound s cs vs z run =
     ∙ numbers-are noRenewed noEvents (answers (founded s) cs)
     ∙ theorems .neverUnsound s (fit s cs vs z run) cs
 
-coupled : (s : Start) (cs : List Call) (vs : List Seen) (z : List ℕ) → ImageRun s cs vs z
-    → (p q i j m n x y : ℕ) (v w : Verdict) → groupOf p ≡ groupOf q
-    → BetweenLimits (view (bookIn z)) p m x → BetweenLimits (view (bookIn z)) q n y
-    → answerTo z (check p i m x) ≡ checked v → answerTo z (check q j n y) ≡ checked w → isWithin v ≡ isWithin w
-coupled s cs vs z run p q i j m n x y v w e a b h k =
-    let is = contents-are s cs vs z run in
-    let answered : (c : Call) → respond (after s cs) c .answer ≡ answerTo z c = λ c. ap (λ (r : Record). respond r c .answer) (sym is) in
-    theorems .coupled s cs p q i j m n x y v w e (rw (← is) a) (rw (← is) b) (answered (check p i m x) ∙ h) (answered (check q j n y) ∙ k)
-
 -- ---- two lists
 module _ (s : Start) (g : ℕ) (cs ds : List Call) (us vs : List Seen) (y z : List ℕ) (one : ImageRun s cs us y) (other : ImageRun s ds vs z)
     (same : SameFor g (historyOf s cs) (historyOf s ds)) where
   same-day : view (bookIn y) .common ≡ view (bookIn z) .common
-  same-day = rw (contents-are s cs us y one, contents-are s ds vs z other) (theorems .sameDay s g cs ds same)
+  same-day = agrees.same-day s g cs ds (bookIn y) (bookIn z) (contents-are s cs us y one) (contents-are s ds vs z other) same
 
   same-group : groupAt (view (bookIn y)) g ≡ groupAt (view (bookIn z)) g
-  same-group = rw (contents-are s cs us y one, contents-are s ds vs z other) (theorems .sameGroup s g cs ds same)
+  same-group = agrees.same-group s g cs ds (bookIn y) (bookIn z) (contents-are s cs us y one) (contents-are s ds vs z other) same
 
   same-checks : (p size month price : ℕ) → groupOf p ≡ g → imageCheck y p size month price ≡ imageCheck z p size month price
   same-checks p size month price e =
-      ap (λ (r : Record). answerNumber (respond r (check p size month price) .answer)) (contents-are s cs us y one)
-      ∙ ap answerNumber (theorems .sameChecks s (fit s cs us y one) g cs ds same p size month price e)
-      ∙ sym (ap (λ (r : Record). answerNumber (respond r (check p size month price) .answer)) (contents-are s ds vs z other))
+      ap answerNumber
+      (agrees.same-checks s g cs ds (bookIn y) (bookIn z) (contents-are s cs us y one) (contents-are s ds vs z other) same (fit s cs us y one) p size month price e)
 
 pub whole-images : WholeImages
 whole-images =
     record {
       seen = seen-is;
       contents = contents-are;
-      compared = λ s cs vs z run. same-contents (bookIn z) (after s cs) (contents-are s cs vs z run);
+      compared = λ s cs vs z run. agrees.compared s cs (bookIn z) (contents-are s cs vs z run);
       neverUnsound = never-unsound;
-      oneLevel = λ s cs vs z run. rw (contents-are s cs vs z run) (theorems .oneLevel s cs);
-      coupled = coupled;
+      oneLevel = λ s cs vs z run. agrees.one-level s cs (bookIn z) (contents-are s cs vs z run);
+      coupled = λ s cs vs z run. agrees.coupled s cs (bookIn z) (contents-are s cs vs z run);
       sameDay = same-day;
       sameGroup = same-group;
       sameChecks = same-checks;

@@ -1,12 +1,10 @@
 -- A call on the book in words, refused or accepted: what gives all that the call by pointer promises.
 use Prim.Native.Nat.{ℕ}
 use mathlib.Core.Path.{_≡_, refl, sym, _∙_, ap}
-use mathlib.Core.Bool.{Bool, true, false, cond}
+use mathlib.Core.Bool.{Bool, true, false}
 use mathlib.Core.List.{List}
 use mathlib.Core.Option.{Option, some, none}
-use native.Mathlib.Omega.{arith}
 use borrow.Author.Tests.{ne-eqb}
-use Rattle.grain.specs.Refusals.{unfitAmount}
 use Rattle.record.specs.Refusals.{unsound}
 use Rattle.record.specs.State.{Record}
 use Rattle.record.specs.Founding.{Start, isFitStart, founded}
@@ -18,6 +16,7 @@ use Rattle.book.specs.declared.founding.Founding.{Founding}
 use Rattle.book.specs.Book.{view}
 use Rattle.book.specs.Calls.{Responds, answerAs}
 use Rattle.book.specs.Founding.{Founds}
+use Rattle.book.proofs.FoundingNumbers.{fit-by, unfit-by}
 use Rattle.book.proofs.Numbered.{unsound-refusal}
 use Rattle.image.specs.Image.{bookIn}
 use Rattle.image.specs.Answers.{renewedIn, eventsIn}
@@ -79,7 +78,7 @@ module _ (ws : List ℕ) (c : Call) (a : Answer) (z : Book) (yes : isAccepted a 
       by true e = refl
       by false e = cc (not-refused, unsound-refusal (view (bookIn ws)) c e)
 
-  pub sound-after : isSound (view z) ≡ true
+  sound-after : isSound (view z) ≡ true
   sound-after = rw (r .state) (respond-sound (view (bookIn ws)) c sound-before)
 
   pub accepted-image : (rs es now : List ℕ) → answerNumber a ≡ 0 → rs ≡ renewedAfter a (renewedIn ws) → es ≡ eventsAfter a (eventsIn ws)
@@ -93,15 +92,7 @@ module _ (ws : List ℕ) (c : Call) (a : Answer) (z : Book) (yes : isAccepted a 
         unchanged = λ m e. cc (not-refused, e);
       }
 
--- a founding: its number says whether the limits are fit
-unfit-by : (b : Bool) (n : ℕ) → n ≡ cond b 0 unfitAmount → (n ≡ 0 → ⊥) → b ≡ false
-unfit-by true n e f = absurd (f e)
-unfit-by false n e f = refl
-
-pub fit-by : (b : Bool) (n : ℕ) → n ≡ cond b 0 unfitAmount → n ≡ 0 → b ≡ true
-fit-by true n e z = refl
-fit-by false n e z = let x : _≡_ {A = ℕ} 13 0 = sym e ∙ z in absurd (omega arith)
-
+-- a founding
 module _ (ws : List ℕ) (s : Start) (f : Founding) (founds : Founds s f) where
   pub refused-founding : (f .refusal ≡ 0 → ⊥) → FoundsImage ws s (f .refusal) ws
   refused-founding other =

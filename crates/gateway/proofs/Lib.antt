@@ -1,4 +1,5 @@
 pub mod Leaves
+pub mod Numbers
 pub mod Imaged
 pub mod TallyWords
 pub mod BareAnswers

@@ -52,7 +52,7 @@ pub record RespondsImage (ws : List ℕ) (c : Call) (n : ℕ) (now : List ℕ) :
   pub events : eventsIn now ≡ eventsAfter (answerTo ws c) (eventsIn ws)
   pub unchanged : (m : ℕ) → refusal (view (bookIn ws)) c ≡ some m → now ≡ ws
 
--- A check is lent the words to read only.
+-- the number that a check returns, which is lent the words to read only
 abbrev pub imageCheck : List ℕ → ℕ → ℕ → ℕ → ℕ → ℕ
 imageCheck ws p size month price = answerNumber (answerTo ws (check p size month price))
 

@@ -35,7 +35,7 @@ seenOf rs es (a ∷ l) =
     record { number = answerNumber a; renewed = renewedAfter a rs; events = eventsAfter a es }
     ∷ seenOf (renewedAfter a rs) (eventsAfter a es) l
 
--- A list of calls on an image, each on the words that the one before left. It holds what the calls' contracts say, and nothing else.
+-- A list of calls on an image, each on the words that the one before left. Of each call it holds what its contract says, and no more.
 pub data ImageTrace : List ℕ → List Call → List Seen → List ℕ → Type 0 where
   done : {ws : List ℕ} → ImageTrace ws [] [] ws
   changes : {ws now z : List ℕ} {c : Call} {cs : List Call} {vs : List Seen} (n : ℕ)

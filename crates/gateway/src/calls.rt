@@ -4,8 +4,10 @@ ghost use mathlib.Core.List.{[], _∷_};
 ghost use mathlib.Core.Path.{_≡_};
 ghost use Rattle.record.specs.Record.{opening, sheet, end};
 ghost use Rattle.opening.specs.Opens.{dayOn};
-ghost use Rattle.gateway.specs.Calls.{RespondsImage, imageCheck, FoundsImage};
-use crate::numbers::checked_number;
+ghost use Rattle.checking.specs.Checks.{checkedAs};
+ghost use Rattle.gateway.specs.Calls.{answerNumber, RespondsImage, imageCheck, FoundsImage};
+use checking::Checked;
+use grain::verdict_number;
 use image::WORDS;
 use image::book_in;
 use image::put_ended;
@@ -95,6 +97,15 @@ pub extern "C" fn botskhela_end(words: &mut [u32; WORDS]) -> u32
     let events = ended.events;
     put_ended(words, next, events);
     0
+}
+
+fn checked_number(checked: Checked) -> u32
+    ensures { λ r. ⌜ r ≡ answerNumber (checkedAs checked) ⌝ }
+{
+    match checked {
+        Checked::Is(verdict) => verdict_number(verdict),
+        Checked::Refused(n) => n,
+    }
 }
 
 #[no_mangle]

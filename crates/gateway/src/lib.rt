@@ -4,7 +4,6 @@ ghost use mathlib.Core.Path.{_≡_};
 ghost use Rattle.grain.specs.Bare.{bareCheck};
 
 mod calls;
-mod numbers;
 mod tallied;
 mod tally_words;
 

@@ -1,3 +1,4 @@
+pub mod Agrees
 pub mod Follows
 pub mod Proved
 pub mod Ties

@@ -21,7 +21,7 @@ module _ {A : Type 0} where
     chunks-long zero ws = refl
     chunks-long (suc n) ws = ap suc (chunks-long n (drop k ws))
 
-    pub chunk-at : (n : ℕ) (ws : List ℕ) (p : ℕ) (d : A) → p < n → of (take k (drop (k * p) ws)) ≡ getD (chunks k of n ws) p d
+    chunk-at : (n : ℕ) (ws : List ℕ) (p : ℕ) (d : A) → p < n → of (take k (drop (k * p) ws)) ≡ getD (chunks k of n ws) p d
     unfolding chunks
     chunk-at zero ws p d l = absurd (not-suc-le-zero l)
     chunk-at (suc n) ws zero d l = rw (mul-zero k)

@@ -8,7 +8,7 @@ use Rattle.image.specs.Places.{eventWords}
 use Rattle.image.specs.Places as at
 use Rattle.image.specs.Words.{part}
 
--- the kind, and the month and product of the leading contract, 0 where there is none
+-- the kind, as include/botskhela.h numbers them, and the month and product of the leading contract, 0 where there is none
 abbrev pub wordsOfEvent : Event → List ℕ
 wordsOfEvent Quiet = 0 ∷ 0 ∷ 0 ∷ []
 wordsOfEvent (Triggered l) = 1 ∷ l .month ∷ l .product ∷ []
