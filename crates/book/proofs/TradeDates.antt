@@ -4,9 +4,11 @@ use mathlib.Core.Path.{_≡_, sym, _∙_}
 use mathlib.Core.Bool.{true}
 use native.Mathlib.Omega.{arith}
 use lib.Dec.{leb}
+use borrow.Author.Tests.{le-leb}
 use Rattle.grain.specs.Dates.{isDate, daysRemaining}
 use Rattle.grain.specs.declared.spot.TradeDate.{TradeDate}
 use Rattle.grain.proofs.Tests.{&&-left}
+use Rattle.grain.proofs.ValidDates.{valid-date}
 use Rattle.record.specs.declared.Day.{Day}
 use Rattle.record.specs.State.{tradeDate}
 use Rattle.record.specs.Opening.{isTrueDay}
@@ -21,7 +23,9 @@ module _ (d : Day) (t : isTrueDay d ≡ true) where
 
   dated-on : datedAs (tradeDateOf d) ≡ On (tradeDate d)
   unfolding tradeDateOf
-  dated-on = rw true-date
+  dated-on =
+      let is = valid-date (d .year) (d .month) (d .day) true-date in
+      rw (le-leb (d .year) 2098 (is .last), le-leb 1 (d .month) (is .someMonth), le-leb (d .month) 12 (is .lastMonth))
 
   -- it has a trade date
   pub has-date : (r : Dated) → r ≡ datedAs (tradeDateOf d) → r ≡ NoDay → ⊥
