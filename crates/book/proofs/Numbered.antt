@@ -12,7 +12,7 @@ use Rattle.record.specs.Refusals.{Test, when, first, unsound}
 use Rattle.record.specs.State.{Record}
 use Rattle.record.specs.Opening.{openingTests}
 use Rattle.record.specs.Sheet.{sheetTests}
-use Rattle.record.specs.Check.{checkTests}
+use Rattle.record.specs.Check.{termsTests, orderTests}
 use Rattle.record.specs.Sound.{isSound}
 use Rattle.record.specs.Record.{Call, opening, sheet, end, check, tests, refusal}
 
@@ -29,7 +29,7 @@ first-numbered (t ∷ l) n e = go (t .applies) (t .number) (and-left _ _ n) (fir
     go false m k later h = later h
 
 numbered-tests : (r : Record) (c : Call) → every isNumbered (tests r c) ≡ true
-unfolding every _and_ tests openingTests sheetTests checkTests
+unfolding every _and_ tests openingTests sheetTests termsTests orderTests
 numbered-tests r (opening d) = refl
 numbered-tests r (sheet p ms ss) = refl
 numbered-tests r end = refl

@@ -1,2 +1,2 @@
-pub mod Answers
-pub mod Listings
+pub mod Offering
+pub mod Orders

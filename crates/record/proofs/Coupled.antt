@@ -10,9 +10,9 @@ use Rattle.grain.specs.Check.{verdict}
 use Rattle.grain.specs.declared.check.Verdict.{Verdict}
 use Rattle.grain.specs.declared.check.Verdict.the-variants.{Below, Above}
 use Rattle.record.specs.State.{Level, initial, expanded, Record, groupTable, groupOf, groupAt, productIn, limitAt}
-use Rattle.record.specs.Check.{checkAnswer}
+use Rattle.record.specs.Check.{judged}
 use Rattle.record.specs.Sound.{isExpanded}
-use Rattle.record.specs.Record.{check, checked, refusal, answer, answerBy, respond}
+use Rattle.record.specs.Record.{check, checked, termsIn, refusal, answer, answerBy, respond}
 use Rattle.record.specs.Theorems.{OneLevel, BetweenLimits, isWithin}
 
 pub one-level : (r : Record) → OneLevel r
@@ -44,14 +44,14 @@ module _ (r : Record) (p month price : ℕ) (w : BetweenLimits r p month price) 
   -- what an accepted check answers
   within-by-level : (size : ℕ) (v : Verdict) → respond r (check p size month price) .answer ≡ checked v
       → isWithin v ≡ isExpanded (groupAt r (groupOf p) .level)
-  unfolding respond answer checkAnswer
+  unfolding respond answer judged
   within-by-level size v e = go (refusal r (check p size month price)) e
     where
       go : (o : Option ℕ) → answerBy o (answer r (check p size month price)) ≡ checked v
           → isWithin v ≡ isExpanded (groupAt r (groupOf p) .level)
       go (some n) e = cc
       go none e =
-          let is : checkAnswer (r .common) (groupAt r (groupOf p)) p month price ≡ v = cc in
+          let is : judged (termsIn r p size) month price ≡ v = cc in
           rw (← is) (rw (w .notSpot, w .isListed) (by-level (groupAt r (groupOf p) .level)))
 
 pub coupled : (r : Record) (p q i j m n x y : ℕ) (v w : Verdict) → groupOf p ≡ groupOf q

@@ -18,7 +18,7 @@ use Rattle.record.specs.Opening.{isTrueDay, openingTests, isRenewed, ope
 use Rattle.record.specs.Sheet.{isMisshapen, hasBadMonth, hasBadSettlement, lacksContract, isBeyond, sheetTests, fileProduct, fileGroup}
 use Rattle.record.specs.Window.{collectedMonth, windowAfter}
 use Rattle.record.specs.End.{Event, Quiet, Lead, productMoves, groupMoves, eventOf, groupEvent, endProduct, endGroup}
-use Rattle.record.specs.Check.{checkTests, checkAnswer}
+use Rattle.record.specs.Check.{termsTests, orderTests, judged}
 use Rattle.record.specs.Sound.{isSoundSheet, isSoundWindow, isSoundProduct, isSoundGroup, isSoundCommon, isSound}
 use Rattle.record.specs.Record.{Call, opening, sheet, end, Answer, refused, opened, filed, ended, checked, isOutstanding, tests, refusal, answer, nextCommon, nextGroup, next, Result, respond, stateAfter, answers}
 use Rattle.record.specs.History.{keptFrom}
@@ -204,7 +204,7 @@ daysOf2025 calls (suc n) month day = calls (on 2025 month day 0) ++ daysOf2025 c
 -- ---- what is computed
 -- The Record after a list of calls. Its line opens every definition of the Record, so that a vector names only this one.
 unfoldable pub stateOf : Record → List Call → Record
-unfolding _and_ every isAscending sum steps floors firsts standardTicks miniTicks grainMonths soybeanMonths oilAndMealMonths riceMonths monthsTraded tickOf isTraded isOnTick expandedBy seasonBy isFit isLeap monthLengths monthLength isDate contractMonth seasonNumber daysRemaining isSpot verdict groupTable foundProduct foundGroup founded isFitStart isTrueDay openingTests isRenewed openProduct openGroup isMisshapen hasBadMonth hasBadSettlement lacksContract isBeyond sheetTests fileProduct fileGroup collectedMonth windowAfter productMoves groupMoves eventOf groupEvent endProduct endGroup checkTests checkAnswer isSoundSheet isSoundWindow isSoundProduct isSoundGroup isSoundCommon isSound isOutstanding tests refusal answer nextCommon nextGroup next respond stateAfter answers keptFrom
+unfolding _and_ every isAscending sum steps floors firsts standardTicks miniTicks grainMonths soybeanMonths oilAndMealMonths riceMonths monthsTraded tickOf isTraded isOnTick expandedBy seasonBy isFit isLeap monthLengths monthLength isDate contractMonth seasonNumber daysRemaining isSpot verdict groupTable foundProduct foundGroup founded isFitStart isTrueDay openingTests isRenewed openProduct openGroup isMisshapen hasBadMonth hasBadSettlement lacksContract isBeyond sheetTests fileProduct fileGroup collectedMonth windowAfter productMoves groupMoves eventOf groupEvent endProduct endGroup termsTests orderTests judged isSoundSheet isSoundWindow isSoundProduct isSoundGroup isSoundCommon isSound isOutstanding tests refusal answer nextCommon nextGroup next respond stateAfter answers keptFrom
 stateOf r cs = stateAfter r cs
 
 -- the answers to further calls after a list of calls

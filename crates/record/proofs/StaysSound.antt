@@ -14,7 +14,7 @@ use Rattle.record.specs.State.{Record, groupTable}
 use Rattle.record.specs.Founding.{Start, isFitStart, foundProduct, foundGroup, founded}
 use Rattle.record.specs.Opening.{openingTests}
 use Rattle.record.specs.Sheet.{sheetTests}
-use Rattle.record.specs.Check.{checkTests}
+use Rattle.record.specs.Check.{termsTests, orderTests}
 use Rattle.record.specs.Sound.{isSoundGroup, isSoundCommon, isSound}
 use Rattle.record.specs.Record.{Call, opening, sheet, end, check, tests, refusal, answer, stateBy, respond, stateAfter, answers}
 use Rattle.record.specs.Theorems.{isRefusal}
@@ -48,7 +48,7 @@ always-sound r (c ∷ cs) t = always-sound (respond r c .state) cs (respond-soun
 
 -- no test after the first returns 1, and no accepted call answers it
 later-tests : (r : Record) (c : Call) → every (λ t. not (eqb (t .number) unsound)) (tests r c) ≡ true
-unfolding _and_ every tests openingTests sheetTests checkTests
+unfolding _and_ every tests openingTests sheetTests termsTests orderTests
 later-tests r (opening d) = refl
 later-tests r (sheet p ms ss) = refl
 later-tests r end = refl

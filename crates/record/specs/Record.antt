@@ -1,7 +1,7 @@
 -- The Record: the calls, what refuses them, what they answer, and what they change.
 use Prim.Native.Nat.{ℕ}
 use mathlib.Core.Bool.{Bool, true, false, not}
-use mathlib.Core.List.{List, [], _∷_, map}
+use mathlib.Core.List.{List, [], _∷_, _++_, map}
 use mathlib.Core.Option.{Option, some, none}
 use Rattle.grain.specs.Lists.{any}
 use Rattle.grain.specs.Products.{isProduct}
@@ -13,7 +13,7 @@ use Rattle.record.specs.State.{Day, Group, Common, Record, groupOf, grou
 use Rattle.record.specs.Opening.{openingTests, isRenewed, openGroup}
 use Rattle.record.specs.Sheet.{contracts, sheetTests, fileGroup}
 use Rattle.record.specs.End.{Event, groupEvent, endGroup}
-use Rattle.record.specs.Check.{checkTests, checkAnswer}
+use Rattle.record.specs.Check.{Terms, termsTests, termsOf, orderTests, judged}
 use Rattle.record.specs.Sound.{isSound}
 
 pub data Call : Type 0 where
@@ -33,6 +33,10 @@ pub data Answer : Type 0 where
   ended : List Event → Answer
   checked : Verdict → Answer
 
+-- the terms that a product and size have
+abbrev pub termsIn : Record → ℕ → ℕ → Terms
+termsIn r p size = termsOf (r .common) (groupAt r (groupOf p)) p size
+
 unfoldable pub isOutstanding : Group → Bool
 isOutstanding g = any (λ q. not (isSome (q .today))) (g .products)
 
@@ -45,20 +49,26 @@ tests r (sheet p ms ss) =
     ∷ sheetTests (r .common) (groupAt r (groupOf p)) p ms ss
 tests r end =
     when (not (r .common .isOpen)) wrongPhase ∷ when (any isOutstanding (r .groups)) sheetOutstanding ∷ []
-tests r (check p size month price) =
-    when (not (r .common .isOpen)) wrongPhase
-    ∷ checkTests (r .common) (groupAt r (groupOf p)) p size month price
+tests r (check p size month price) = termsTests (r .common) p size ++ orderTests (termsIn r p size) month price
 
--- the number with which a call is refused, judged by the Record's own contents
+-- the first number that refuses, 1 before the tests; judged by the Record's own contents
+abbrev pub refusalBy : Record → List Test → Option ℕ
+refusalBy r ts = first (when (not (isSound r)) unsound ∷ ts)
+
+-- the number with which a call is refused
 unfoldable pub refusal : Record → Call → Option ℕ
-refusal r c = first (when (not (isSound r)) unsound ∷ tests r c)
+refusal r c = refusalBy r (tests r c)
+
+-- the number with which a product and size are refused their terms
+unfoldable pub termsRefusal : Record → ℕ → ℕ → Option ℕ
+termsRefusal r p size = refusalBy r (termsTests (r .common) p size)
 
 -- the answer of an accepted call
 unfoldable pub answer : Record → Call → Answer
 answer r (opening d) = opened (concatMap (λ g. map (isRenewed (r .common) d) (g .products)) (r .groups))
 answer r (sheet p ms ss) = filed
 answer r end = ended (map (groupEvent (r .common)) (r .groups))
-answer r (check p size month price) = checked (checkAnswer (r .common) (groupAt r (groupOf p)) p month price)
+answer r (check p size month price) = checked (judged (termsIn r p size) month price)
 
 -- what an accepted call leaves, of what is common and of each group
 unfoldable pub nextCommon : Common → Call → Common
@@ -84,6 +94,10 @@ stateBy none r c = next r c
 abbrev pub answerBy : Option ℕ → Answer → Answer
 answerBy (some n) a = refused n
 answerBy none a = a
+
+-- what a month and price get on terms: 14, 8 or the answer
+abbrev pub orderAnswer : Terms → ℕ → ℕ → Answer
+orderAnswer t month price = answerBy (first (orderTests t month price)) (checked (judged t month price))
 
 pub record Result : Type 0 where
   pub state : Record

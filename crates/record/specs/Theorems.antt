@@ -9,7 +9,7 @@ use Rattle.grain.specs.Lists.{every, distance}
 use Rattle.grain.specs.declared.check.Verdict.{Verdict}
 use Rattle.grain.specs.declared.check.Verdict.the-variants.{Free, Within, Below, Above}
 use Rattle.record.specs.Refusals.{unsound}
-use Rattle.record.specs.State.{Level, Record, dayOf, isSpotOn, groupOf, groupAt, productIn, limitAt, todaysLimit}
+use Rattle.record.specs.State.{Level, Record, dayOf, tradeDate, isSpotOn, groupOf, groupAt, productIn, limitAt, todaysLimit, sheetOr}
 use Rattle.record.specs.Founding.{Start, isFitStart, founded}
 use Rattle.record.specs.Check.{listed}
 use Rattle.record.specs.Sound.{isSound}
@@ -57,7 +57,7 @@ pub record OneLevel (r : Record) : Type 0 where
 -- a price of a listed, non-spot contract beyond its product's I and not beyond its E
 pub record BetweenLimits (r : Record) (p month price : ℕ) : Type 0 where
   pub settlement : ℕ
-  pub isListed : listed (r .common) (groupAt r (groupOf p)) p month ≡ some settlement
+  pub isListed : listed (tradeDate (dayOf (r .common))) (sheetOr (productIn (groupAt r (groupOf p)) p .last)) month ≡ some settlement
   pub notSpot : isSpotOn (dayOf (r .common)) month ≡ false
   pub beyondInitial : productIn (groupAt r (groupOf p)) p .initialLimit < distance price settlement
   pub notBeyondExpanded : distance price settlement ≤ productIn (groupAt r (groupOf p)) p .expandedLimit
