@@ -22,6 +22,6 @@ module _ (t : Terms) (month price : ℕ) where
     bad-price e = rw (found, e)
 
     pub answered : isOnTick (t .tick) price ≡ true
-        → orderAnswer t month price ≡ checked (verdict (isSpot (t .date) month) x (t .limit) price)
+        → orderAnswer t month price ≡ checked (verdict (isSpot (t .date) month) (t .tick) x (t .limit) price)
     unfolding orderTests judged
     answered e = rw (found, e)

@@ -35,6 +35,7 @@ impl Terms {
             return Checked::Refused(BAD_PRICE);
         }
         let date = self.date;
-        Checked::Is(grain::judge(date.is_spot(month), settlement, self.limit, price))
+        let spot = date.is_spot(month);
+        Checked::Is(grain::judge(spot, self.tick, settlement, self.limit, price))
     }
 }

@@ -1,5 +1,5 @@
 -- The theorem over whole lists of calls on an image, proved; and what words with no book in them answer.
-use Prim.Native.Nat.{ℕ}
+use Prim.Native.Nat.{ℕ, _<_}
 use mathlib.Core.Path.{_≡_, refl, _∙_, ap}
 use mathlib.Core.Bool.{true, false, not}
 use mathlib.Core.List.{List, [], _∷_}
@@ -7,12 +7,15 @@ use mathlib.Core.Option.{Option, some, none}
 use native.Mathlib.Omega.{arith}
 use lib.Dec.{eqb}
 use Rattle.grain.specs.Lists.{every}
+use Rattle.grain.specs.Check.{spanIn}
+use Rattle.grain.specs.declared.check.Span.{Span}
 use Rattle.grain.specs.declared.check.Verdict.{Verdict}
+use Rattle.grain.specs.declared.check.Verdict.the-variants.{Free, Within, Below, Above}
 use Rattle.record.specs.Refusals.{unsound}
 use Rattle.record.specs.State.{Record, groupOf, groupAt}
 use Rattle.record.specs.Founding.{Start, isFitStart, founded}
 use Rattle.record.specs.Sound.{isSound}
-use Rattle.record.specs.Record.{Call, check, Answer, refused, checked, refusal, answer, answerBy, respond, stateAfter, answers}
+use Rattle.record.specs.Record.{Call, check, Answer, refused, opened, filed, ended, checked, refusal, answer, answerBy, respond, stateAfter, answers}
 use Rattle.record.specs.History.{SameFor}
 use Rattle.record.specs.Theorems.{after, historyOf, isRefusal}
 use Rattle.record.proofs.Proved.{theorems}
@@ -24,8 +27,9 @@ use Rattle.book.proofs.Unfounded.{no-book-unsound}
 use Rattle.history.proofs.Agrees as agrees
 use Rattle.image.specs.Image.{isImage, bookIn}
 use Rattle.image.specs.Answers.{renewedIn, eventsIn}
-use Rattle.gateway.specs.Calls.{answerNumber, renewedAfter, eventsAfter, answerTo, RespondsImage, imageCheck, noRenewed, noEvents}
-use Rattle.gateway.specs.Images.{Seen, sees, seenOf, ImageTrace, done, changes, checks, ImageRun, WholeImages, NoImage}
+use Rattle.gateway.specs.Calls.{answerNumber, renewedAfter, eventsAfter, answerTo, RespondsImage, answerSpan, withSpan, imageCheck, noRenewed, noEvents}
+use Rattle.gateway.specs.declared.spans.Spanned.{Spanned}
+use Rattle.gateway.specs.Images.{Seen, sees, seenOf, ImageTrace, done, changes, checks, spans, ImageRun, ResentImage, WholeImages, NoImage}
 use Rattle.gateway.proofs.Numbers.{number-of}
 
 -- ---- one call
@@ -70,6 +74,7 @@ unfolding answers stateAfter seenOf
 follows done = record { seen = refl; contents = refl }
 follows (changes n r t) = one-more r (follows t)
 follows (checks n e t) = one-more (check-image _ _ _ _ _ n e) (follows t)
+follows (spans r e t) = one-more (check-image _ _ _ _ _ (r .answer) (ap (λ (r : Spanned). r .answer) e)) (follows t)
 
 module _ (s : Start) (cs : List Call) (vs : List Seen) (z : List ℕ) (run : ImageRun s cs vs z) where
   fit : isFitStart s ≡ true
@@ -86,6 +91,24 @@ module _ (s : Start) (cs : List Call) (vs : List Seen) (z : List ℕ) (run : Ima
 
   contents-are : view (bookIn z) ≡ after s cs
   contents-are = follows (run .trace) .contents ∙ ap (λ (r : Record). stateAfter r cs) (run .founds .state fit)
+
+  -- a verdict with a span, sent again at its ends
+  module _ (p size month price : ℕ) where
+    at-ends : (v : Verdict) (a : Span) → answerTo z (check p size month price) ≡ checked v → spanIn v ≡ some a
+        → ResentImage z p size month (withSpan (checked (Within a)))
+    at-ends v a e has =
+        let r = agrees.resent s cs (bookIn z) contents-are p size month price v a e has in
+        record { atLowest = ap withSpan (r .atLowest); atHighest = ap withSpan (r .atHighest) }
+
+    resends : (a : Answer) → answerTo z (check p size month price) ≡ a → 0 < answerSpan a .lowest → ResentImage z p size month (withSpan a)
+    resends (refused n) e l = absurd (omega arith)
+    resends (opened b) e l = absurd (omega arith)
+    resends filed e l = absurd (omega arith)
+    resends (ended b) e l = absurd (omega arith)
+    resends (checked Free) e l = absurd (omega arith)
+    resends (checked (Within a)) e l = at-ends (Within a) a e refl
+    resends (checked (Below a)) e l = let r = at-ends (Below a) a e refl in record { atLowest = r .atLowest; atHighest = r .atHighest }
+    resends (checked (Above a)) e l = let r = at-ends (Above a) a e refl in record { atLowest = r .atLowest; atHighest = r .atHighest }
 
 -- no number is 1 where no answer is refusal 1
 numbers-are : (rs es : List ℕ) (l : List Answer)
@@ -110,10 +133,9 @@ module _ (s : Start) (g : ℕ) (cs ds : List Call) (us vs : List Seen) (y z : Li
   same-group : groupAt (view (bookIn y)) g ≡ groupAt (view (bookIn z)) g
   same-group = agrees.same-group s g cs ds (bookIn y) (bookIn z) (contents-are s cs us y one) (contents-are s ds vs z other) same
 
-  same-checks : (p size month price : ℕ) → groupOf p ≡ g → imageCheck y p size month price ≡ imageCheck z p size month price
-  same-checks p size month price e =
-      ap answerNumber
-      (agrees.same-checks s g cs ds (bookIn y) (bookIn z) (contents-are s cs us y one) (contents-are s ds vs z other) same (fit s cs us y one) p size month price e)
+  same-answers : (p size month price : ℕ) → groupOf p ≡ g → answerTo y (check p size month price) ≡ answerTo z (check p size month price)
+  same-answers =
+      agrees.same-checks s g cs ds (bookIn y) (bookIn z) (contents-are s cs us y one) (contents-are s ds vs z other) same (fit s cs us y one)
 
 pub whole-images : WholeImages
 whole-images =
@@ -126,7 +148,9 @@ whole-images =
       coupled = λ s cs vs z run. agrees.coupled s cs (bookIn z) (contents-are s cs vs z run);
       sameDay = same-day;
       sameGroup = same-group;
-      sameChecks = same-checks;
+      resent = λ s cs vs z run p size month price. resends s cs vs z run p size month price _ refl;
+      sameSpans = λ s g cs ds us vs y z one other same p size month price e. ap withSpan (same-answers s g cs ds us vs y z one other same p size month price e);
+      sameChecks = λ s g cs ds us vs y z one other same p size month price e. ap answerNumber (same-answers s g cs ds us vs y z one other same p size month price e);
     }
 
 -- ---- words with no book in them
@@ -145,4 +169,5 @@ no-image =
       changes = λ ws now c n no r.
           (r .number ∙ ap answerNumber (unsound-answer ws no c), r .unchanged unsound (unsound-refusal (view (bookIn ws)) c (no-sound ws no)));
       checks = λ ws p size month price no. ap answerNumber (unsound-answer ws no (check p size month price));
+      spans = λ ws p size month price no. ap withSpan (unsound-answer ws no (check p size month price));
     }

@@ -7,7 +7,7 @@ use mathlib.Core.Option.{Option, some, none}
 use borrow.Author.Tests.{ne-eqb}
 use Rattle.record.specs.Refusals.{unsound}
 use Rattle.record.specs.State.{Record}
-use Rattle.record.specs.Founding.{Start, isFitStart, founded}
+use Rattle.record.specs.Founding.{Start, isFitStart}
 use Rattle.record.specs.Sound.{isSound}
 use Rattle.record.specs.Record.{Call, opening, sheet, end, check, Answer, refused, opened, filed, ended, checked, refusal, answer, answerBy, stateBy, respond}
 use Rattle.record.proofs.StaysSound.{founded-sound, respond-sound}

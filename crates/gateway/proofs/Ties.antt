@@ -7,13 +7,15 @@ use contract.Lifetimes.{Lfts}
 use denote.Ref.{now}
 use Rattle.record.specs.Record.{opening, sheet, end}
 use Rattle.opening.specs.Opens.{dayOn}
-use Rattle.gateway.specs.Calls.{RespondsImage, imageCheck, FoundsImage}
+use Rattle.gateway.specs.declared.spans.Spanned.{Spanned}
+use Rattle.gateway.specs.Calls.{RespondsImage, imageCheck, imageSpan, FoundsImage}
 use Rattle.gateway.specs.Tallied.{tallyIn, TalliesBare, TalliesImage}
 use Rattle.gateway.proofs.calls.botskhela_found.Reads as founds
 use Rattle.gateway.proofs.calls.botskhela_open.Reads as opens
 use Rattle.gateway.proofs.calls.botskhela_sheet.Reads as files
 use Rattle.gateway.proofs.calls.botskhela_end.Reads as ends
 use Rattle.gateway.proofs.calls.botskhela_check.Reads as checks
+use Rattle.gateway.proofs.spans.botskhela_check_span.Reads as checks-span
 use Rattle.gateway.proofs.tallied.botskhela_tallied_check.Reads as tallied-check
 use Rattle.gateway.proofs.tallied.botskhela_tallied_book_check.Reads as tallied-book-check
 
@@ -50,6 +52,13 @@ check-says κs a r s q = q
 
 pub check-asks : (κs : Lfts 1) (a : _) → checks.Pre κs a
 check-asks κs a = tt
+
+pub check-span-says : (κs : Lfts 1) (a : _) (r : Spanned) (s : _) → checks-span.Post κs a r s
+    → r ≡ imageSpan (now (a .0)) (a .1 .0) (a .1 .1 .0) (a .1 .1 .1 .0) (a .1 .1 .1 .1 .0)
+check-span-says κs a r s q = q
+
+pub check-span-asks : (κs : Lfts 1) (a : _) → checks-span.Pre κs a
+check-span-asks κs a = tt
 
 pub tallied-check-says : (κs : Lfts 1) (a : _) (r : ℕ) (s : _) → tallied-check.Post κs a r s
     → TalliesBare (tallyIn (now (a .0))) (a .1 .0) (a .1 .1 .0) (a .1 .1 .1 .0) (a .1 .1 .1 .1 .0) (a .1 .1 .1 .1 .1 .0) (a .1 .1 .1 .1 .1 .1 .0) r (tallyIn (now (s .0)))

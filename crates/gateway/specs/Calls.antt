@@ -5,8 +5,9 @@ use mathlib.Core.Bool.{true, false, cond}
 use mathlib.Core.List.{List, map}
 use mathlib.Core.Option.{some}
 use lib.ListN.{replicate}
-use Rattle.grain.specs.Bare.{verdictNumber}
+use Rattle.grain.specs.Bare.{verdictNumber, noSpan, verdictSpan}
 use Rattle.grain.specs.Refusals.{unfitAmount}
+use Rattle.grain.specs.declared.check.Span.{Span}
 use Rattle.record.specs.Founding.{Start, isFitStart, founded}
 use Rattle.record.specs.Record.{Call, check, Answer, refused, opened, filed, ended, checked, refusal, respond}
 use Rattle.book.specs.Book.{view}
@@ -14,6 +15,7 @@ use Rattle.image.specs.Places.{eventWords}
 use Rattle.image.specs.Words.{flat}
 use Rattle.image.specs.Image.{flagWord, bookIn}
 use Rattle.image.specs.Answers.{wordsOfEvent, renewedIn, eventsIn}
+use Rattle.gateway.specs.declared.spans.Spanned.{Spanned}
 
 -- the number that a call returns: 0 where it is accepted, and a check's verdict
 abbrev pub answerNumber : Answer → ℕ
@@ -55,6 +57,21 @@ pub record RespondsImage (ws : List ℕ) (c : Call) (n : ℕ) (now : List ℕ) :
 -- the number that a check returns, which is lent the words to read only
 abbrev pub imageCheck : List ℕ → ℕ → ℕ → ℕ → ℕ → ℕ
 imageCheck ws p size month price = answerNumber (answerTo ws (check p size month price))
+
+-- the span of an answer, two zeros where it has none
+abbrev pub answerSpan : Answer → Span
+answerSpan (refused n) = noSpan
+answerSpan (opened l) = noSpan
+answerSpan filed = noSpan
+answerSpan (ended l) = noSpan
+answerSpan (checked v) = verdictSpan v
+
+abbrev pub withSpan : Answer → Spanned
+withSpan a = record { answer = answerNumber a; lowest = answerSpan a .lowest; highest = answerSpan a .highest }
+
+-- what a check with its span returns
+abbrev pub imageSpan : List ℕ → ℕ → ℕ → ℕ → ℕ → Spanned
+imageSpan ws p size month price = withSpan (answerTo ws (check p size month price))
 
 abbrev pub noRenewed : List ℕ
 noRenewed = replicate 8 0

@@ -5,8 +5,7 @@ use mathlib.Core.Bool.{cond}
 use mathlib.Core.List.{List, [], _∷_}
 use lib.Dec.{eqb}
 use lib.ListN.{getD}
-use Rattle.grain.specs.Bare.{verdictNumber, bareCheck}
-use Rattle.grain.specs.declared.check.Verdict.the-variants as verdict
+use Rattle.grain.specs.Bare.{free, within, below, above, bareCheck}
 use Rattle.tally.specs.declared.Tally.{Tally}
 use Rattle.tally.specs.declared.Kind.{Kind}
 use Rattle.tally.specs.declared.Kind.the-variants.{Free, Within, Below, Above, Refused}
@@ -31,10 +30,7 @@ wordsOfTally t = t .asked ∷ t .free ∷ t .within ∷ t .below ∷ t .above �
 -- what an answer's number is counted as
 unfoldable pub kindOfNumber : ℕ → Kind
 kindOfNumber n =
-    cond (eqb n (verdictNumber verdict.Free)) Free
-    (cond (eqb n (verdictNumber verdict.Within)) Within
-    (cond (eqb n (verdictNumber verdict.Below)) Below
-    (cond (eqb n (verdictNumber verdict.Above)) Above Refused)))
+    cond (eqb n free) Free (cond (eqb n within) Within (cond (eqb n below) Below (cond (eqb n above) Above Refused)))
 
 -- 1 and 15 are the tally's own; every other answer is the bare check's, and is counted
 pub record TalliesBare (t : Tally) (product size settlement amount spot price r : ℕ) (after : Tally) : Type 0 where

@@ -10,8 +10,10 @@ use crate::botskhela_bare_check;
 use crate::calls::botskhela_check;
 use crate::tally_words::tally_in;
 use crate::tally_words::words_of;
-use grain::Verdict;
-use grain::verdict_number;
+use grain::verdicts::ABOVE;
+use grain::verdicts::BELOW;
+use grain::verdicts::FREE;
+use grain::verdicts::WITHIN;
 use image::WORDS;
 use tally::Kind;
 use tally::Tally;
@@ -20,16 +22,16 @@ use tally::Tally;
 fn kind_of(number: u32) -> Kind
     ensures { λ r. ⌜ r ≡ kindOfNumber number ⌝ }
 {
-    if number == verdict_number(Verdict::Free) {
+    if number == FREE {
         return Kind::Free;
     }
-    if number == verdict_number(Verdict::Within) {
+    if number == WITHIN {
         return Kind::Within;
     }
-    if number == verdict_number(Verdict::Below) {
+    if number == BELOW {
         return Kind::Below;
     }
-    if number == verdict_number(Verdict::Above) {
+    if number == ABOVE {
         return Kind::Above;
     }
     Kind::Refused

@@ -46,7 +46,7 @@ module _ (most p a : ℕ) where
       (eq-eqb _ _ (f .multiple))
 
 -- the smaller and the larger of two multiples are one of them
-one-of : (step a b c : ℕ) → a % step ≡ 0 → b % step ≡ 0 → ((c ≡ a → ⊥) → c ≡ b) → c % step ≡ 0
+pub one-of : (step a b c : ℕ) → a % step ≡ 0 → b % step ≡ 0 → ((c ≡ a → ⊥) → c ≡ b) → c % step ≡ 0
 one-of step a b c ea eb other = go (eqb c a) refl
   where
     go : (t : Bool) → eqb c a ≡ t → c % step ≡ 0

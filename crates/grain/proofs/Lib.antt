@@ -1,5 +1,4 @@
 pub mod Ascending
-pub mod BareAnswers
 pub mod Below
 pub mod FactsOfDates
 pub mod Columns
@@ -13,7 +12,9 @@ pub mod Outcomes
 pub mod Rounded
 pub mod Rounding
 pub mod Scans
+pub mod Spanned
+pub mod SpanCases
 pub mod Sums
 pub mod Tests
 pub mod ValidDates
-pub mod Verdicts
+pub mod Judged

@@ -6,7 +6,7 @@ use Rattle.grain.specs.Prices.{isOnTick, isSettlement}
 use Rattle.grain.specs.Amounts.{isFit, isFitAmount, isFitFounding}
 use Rattle.grain.specs.Dates.{contractMonth}
 use Rattle.grain.specs.Check.{verdict}
-use Rattle.grain.specs.Bare.{bareCheck}
+use Rattle.grain.specs.Bare.{bareAnswer, bareCheck}
 
 pub record ProductCases : Type 0 where
   -- Rough Rice is the last product
@@ -40,7 +40,7 @@ pub record ProductCases : Type 0 where
   pub spotTwo : bareCheck 0 0 4000 200 2 9000 ≡ 100
 
 pub product-cases : ProductCases
-unfolding steps floors firsts standardTicks miniTicks grainMonths soybeanMonths oilAndMealMonths riceMonths monthsTraded tickOf isTraded isOnTick isFit contractMonth bareCheck verdict
+unfolding steps floors firsts standardTicks miniTicks grainMonths soybeanMonths oilAndMealMonths riceMonths monthsTraded tickOf isTraded isOnTick isFit contractMonth bareAnswer verdict
 product-cases =
     record {
       rice = refl;

@@ -6,6 +6,7 @@ pub mod Rounding
 pub mod Dates
 pub mod Spot
 pub mod Check
+pub mod Spans
 pub mod Refusals
 pub mod Bare
 pub mod Margin

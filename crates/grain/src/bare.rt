@@ -1,7 +1,8 @@
 // The bare check: a price against a settlement and an amount, with no book.
 ghost use mathlib.Core.Path.{_≡_};
-ghost use Rattle.grain.specs.Bare.{verdictNumber, bareNumber, bareCheck};
+ghost use Rattle.grain.specs.Bare.{bareAnswer, verdictNumber, bareNumber, noSpan, verdictSpan, bareSpan};
 use crate::amounts::is_fit_amount;
+use crate::check::Span;
 use crate::check::Verdict;
 use crate::check::judge;
 use crate::prices::is_on_tick;
@@ -10,6 +11,10 @@ use crate::products::tick;
 use crate::refusals::BAD_PRICE;
 use crate::refusals::NO_SUCH_PRODUCT;
 use crate::refusals::UNFIT_AMOUNT;
+use crate::verdicts::ABOVE;
+use crate::verdicts::BELOW;
+use crate::verdicts::FREE;
+use crate::verdicts::WITHIN;
 
 pub enum BareAnswer {
     Is(Verdict),
@@ -27,7 +32,7 @@ pub fn bare_check(
     spot: u32,
     price: u32,
 ) -> BareAnswer
-    ensures { λ r. ⌜ bareNumber r ≡ bareCheck product size settlement amount spot price ⌝ }
+    ensures { λ r. ⌜ r ≡ bareAnswer product size settlement amount spot price ⌝ }
 {
     let tick = tick(product, size);
     if tick == 0 {
@@ -42,17 +47,17 @@ pub fn bare_check(
     if !is_fit_amount(product, amount) {
         return BareAnswer::UnfitAmount;
     }
-    BareAnswer::Is(judge(spot != 0, settlement, amount, price))
+    BareAnswer::Is(judge(spot != 0, tick, settlement, amount, price))
 }
 
 pub fn verdict_number(verdict: Verdict) -> u32
     ensures { λ r. ⌜ r ≡ verdictNumber verdict ⌝ }
 {
     match verdict {
-        Verdict::Free => 100,
-        Verdict::Within => 101,
-        Verdict::Below => 102,
-        Verdict::Above => 103,
+        Verdict::Free => FREE,
+        Verdict::Within(_) => WITHIN,
+        Verdict::Below(_) => BELOW,
+        Verdict::Above(_) => ABOVE,
     }
 }
 
@@ -64,5 +69,37 @@ pub fn bare_number(answer: BareAnswer) -> u32
         BareAnswer::NoSuchProduct => NO_SUCH_PRODUCT,
         BareAnswer::BadPrice => BAD_PRICE,
         BareAnswer::UnfitAmount => UNFIT_AMOUNT,
+    }
+}
+
+// Two zeros are no prices.
+fn no_span() -> Span
+    ensures { λ r. ⌜ r ≡ noSpan ⌝ }
+{
+    Span {
+        lowest: 0,
+        highest: 0,
+    }
+}
+
+pub fn verdict_span(verdict: Verdict) -> Span
+    ensures { λ r. ⌜ r ≡ verdictSpan verdict ⌝ }
+{
+    match verdict {
+        Verdict::Free => no_span(),
+        Verdict::Within(span) => span,
+        Verdict::Below(span) => span,
+        Verdict::Above(span) => span,
+    }
+}
+
+pub fn bare_span(answer: BareAnswer) -> Span
+    ensures { λ r. ⌜ r ≡ bareSpan answer ⌝ }
+{
+    match answer {
+        BareAnswer::Is(verdict) => verdict_span(verdict),
+        BareAnswer::NoSuchProduct => no_span(),
+        BareAnswer::BadPrice => no_span(),
+        BareAnswer::UnfitAmount => no_span(),
     }
 }

@@ -1,25 +1,60 @@
 // A price against a settlement and a limit.
 ghost use mathlib.Core.Path.{_≡_};
+ghost use Prim.Native.Nat.{_+_, _-_, min, max};
 ghost use Rattle.grain.specs.Check.{verdict};
 
-pub enum Verdict {
-    Free,
-    Within,
-    Below,
-    Above,
+// The prices that a limit allows, both ends included.
+pub struct Span {
+    pub lowest: u32,
+    pub highest: u32,
 }
 
-pub fn judge(spot: bool, settlement: u32, limit: u32, price: u32) -> Verdict
-    ensures { λ r. ⌜ r ≡ verdict spot settlement limit price ⌝ }
+pub enum Verdict {
+    // A spot contract has no limit, and so no span.
+    Free,
+    Within(Span),
+    Below(Span),
+    Above(Span),
+}
+
+fn lowest(tick: u32, settlement: u32, limit: u32) -> u32
+    ensures { λ r. ⌜ r ≡ max tick (settlement - limit) ⌝ }
+{
+    if settlement < limit {
+        return tick;
+    }
+    let low = settlement - limit;
+    if low < tick {
+        return tick;
+    }
+    low
+}
+
+fn highest(settlement: u32, limit: u32) -> u32
+    ensures { λ r. ⌜ r ≡ min 1000000 (settlement + limit) ⌝ }
+{
+    let high = (settlement as u64) + (limit as u64);
+    if 1000000 < high {
+        return 1000000;
+    }
+    high as u32
+}
+
+pub fn judge(spot: bool, tick: u32, settlement: u32, limit: u32, price: u32) -> Verdict
+    ensures { λ r. ⌜ r ≡ verdict spot tick settlement limit price ⌝ }
 {
     if spot {
         return Verdict::Free;
     }
+    let span = Span {
+        lowest: lowest(tick, settlement, limit),
+        highest: highest(settlement, limit),
+    };
     if (price as u64) + (limit as u64) < settlement as u64 {
-        return Verdict::Below;
+        return Verdict::Below(span);
     }
     if (settlement as u64) + (limit as u64) < price as u64 {
-        return Verdict::Above;
+        return Verdict::Above(span);
     }
-    Verdict::Within
+    Verdict::Within(span)
 }

@@ -9,6 +9,7 @@ mod prices;
 mod products;
 pub mod refusals;
 mod spot;
+pub mod verdicts;
 
 pub use amounts::expanded;
 pub use amounts::is_fit_amount;
@@ -16,7 +17,10 @@ pub use amounts::is_fit_founding;
 pub use bare::BareAnswer;
 pub use bare::bare_check;
 pub use bare::bare_number;
+pub use bare::bare_span;
 pub use bare::verdict_number;
+pub use bare::verdict_span;
+pub use check::Span;
 pub use check::Verdict;
 pub use check::judge;
 pub use dates::is_date;

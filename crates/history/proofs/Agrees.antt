@@ -3,12 +3,15 @@ use Prim.Native.Nat.{ℕ, _<_}
 use mathlib.Core.Path.{_≡_, ap, sym, _∙_}
 use mathlib.Core.Bool.{true}
 use mathlib.Core.List.{List}
+use mathlib.Core.Option.{some}
+use Rattle.grain.specs.Check.{spanIn, isWithin}
+use Rattle.grain.specs.declared.check.Span.{Span}
 use Rattle.grain.specs.declared.check.Verdict.{Verdict}
 use Rattle.record.specs.State.{Product, Group, Record, groupOf, groupAt}
 use Rattle.record.specs.Founding.{Start, isFitStart}
 use Rattle.record.specs.Record.{Call, check, Answer, checked, respond}
 use Rattle.record.specs.History.{SameFor}
-use Rattle.record.specs.Theorems.{after, historyOf, OneLevel, BetweenLimits, isWithin}
+use Rattle.record.specs.Theorems.{after, historyOf, OneLevel, BetweenLimits, Resent}
 use Rattle.record.proofs.Proved.{theorems}
 use Rattle.book.specs.declared.Book.{Book}
 use Rattle.book.specs.Book.{viewProduct, viewGroup, viewCommon, view}
@@ -60,6 +63,11 @@ module _ (s : Start) (cs : List Call) (z : Book) (is : view z ≡ after s cs) wh
       → answerIn z p i m x ≡ checked v → answerIn z q j n y ≡ checked w → isWithin v ≡ isWithin w
   coupled p q i j m n x y v w e a b h k =
       theorems .coupled s cs p q i j m n x y v w e (rw (← is) a) (rw (← is) b) (answered p i m x ∙ h) (answered q j n y ∙ k)
+
+  pub resent : (p size month price : ℕ) (v : Verdict) (allowed : Span) → answerIn z p size month price ≡ checked v
+      → spanIn v ≡ some allowed → Resent (view z) p size month allowed
+  resent p size month price v allowed e has =
+      rw is (theorems .resent s cs p size month price v allowed (answered p size month price ∙ e) has)
 
 -- ---- two books
 module _ (s : Start) (g : ℕ) (cs ds : List Call) (y z : Book) (one : view y ≡ after s cs) (other : view z ≡ after s ds)

@@ -4,14 +4,15 @@ use mathlib.Core.Path.{_≡_, refl, ap, sym, _∙_}
 use mathlib.Core.Bool.{true, not}
 use mathlib.Core.List.{List}
 use Rattle.grain.specs.Lists.{every}
+use Rattle.grain.specs.Check.{isWithin}
 use Rattle.grain.specs.declared.check.Verdict.{Verdict}
 use Rattle.grain.specs.declared.check.Verdict.the-variants.{Free}
 use Rattle.record.specs.Refusals.{unsound}
-use Rattle.record.specs.State.{Group, Record, groupOf, groupAt}
+use Rattle.record.specs.State.{Record, groupOf, groupAt}
 use Rattle.record.specs.Founding.{Start, isFitStart, founded}
-use Rattle.record.specs.Record.{Call, check, Answer, refused, opened, filed, ended, checked, stateAfter, answers}
+use Rattle.record.specs.Record.{Call, Answer, refused, opened, filed, ended, checked, stateAfter, answers}
 use Rattle.record.specs.History.{kept, SameFor}
-use Rattle.record.specs.Theorems.{after, historyOf, isRefusal, BetweenLimits, isWithin}
+use Rattle.record.specs.Theorems.{after, historyOf, isRefusal, BetweenLimits}
 use Rattle.record.proofs.Proved.{theorems}
 use Rattle.book.specs.declared.Book.{Book}
 use Rattle.book.specs.Book.{view}
@@ -89,6 +90,9 @@ whole-history =
       neverUnsound = never-unsound;
       oneLevel = λ s cs rs z run. agrees.one-level s cs z (contents-are s cs rs z run);
       coupled = coupled;
+      resent =
+          λ s cs rs z run p size month price v allowed h.
+          agrees.resent s cs z (contents-are s cs rs z run) p size month price v allowed (sym (h .answer));
       sameDay = same-day;
       sameGroup = same-group;
       sameChecks = same-checks;

@@ -3,14 +3,17 @@ use Prim.Native.Nat.{ℕ, _<_}
 use mathlib.Core.Path.{_≡_}
 use mathlib.Core.Bool.{true, not}
 use mathlib.Core.List.{List}
+use mathlib.Core.Option.{some}
 use Rattle.grain.specs.Lists.{every}
+use Rattle.grain.specs.Check.{spanIn, isWithin}
+use Rattle.grain.specs.declared.check.Span.{Span}
 use Rattle.grain.specs.declared.check.Verdict.{Verdict}
 use Rattle.record.specs.Refusals.{unsound}
 use Rattle.record.specs.State.{Record, groupOf, groupAt, productIn}
 use Rattle.record.specs.Founding.{Start, founded}
 use Rattle.record.specs.Record.{Call, Answer, answers}
 use Rattle.record.specs.History.{kept, SameFor}
-use Rattle.record.specs.Theorems.{after, isRefusal, OneLevel, BetweenLimits, isWithin}
+use Rattle.record.specs.Theorems.{after, isRefusal, OneLevel, BetweenLimits, Resent}
 use Rattle.sheets.specs.Sheets.{sheetIn}
 use Rattle.windows.specs.Windows.{windowOf}
 use Rattle.book.specs.declared.Book.{Book}
@@ -63,6 +66,11 @@ pub record WholeHistory : Type 0 where
       → (p q i j m n x y : ℕ) (v w : Verdict) → groupOf p ≡ groupOf q
       → BetweenLimits (view z) p m x → BetweenLimits (view z) q n y
       → Checks z p i m x (Is v) → Checks z q j n y (Is w) → isWithin v ≡ isWithin w
+  -- an order that is sent again at an end of the span that its check showed is within, and so are those between, and no others
+  pub resent :
+      (s : Start) (cs : List Call) (rs : List Answer) (z : Book) → Run s cs rs z
+      → (p size month price : ℕ) (v : Verdict) (allowed : Span) → Checks z p size month price (Is v) → spanIn v ≡ some allowed
+      → Resent (view z) p size month allowed
   -- two lists with the same founding limits that agree on the accepted openings and ends and on one group's sheets of each day:
   -- the same day is open after both, or none
   pub sameDay :

@@ -5,7 +5,7 @@ use mathlib.Core.List.{List, [], _∷_, _++_}
 use lib.ListN.{replicate}
 use Rattle.grain.specs.declared.check.Verdict.the-variants.{Free, Within, Below, Above}
 use Rattle.record.specs.Record.{Call, opening, sheet, check, refused, opened, filed, checked}
-use Rattle.record.proofs.Examples.{corn, soybeans, oil, meal, kcWheat, jul24, sep24, jul25, dec25, june3, june4, june5, june26, june27, on, aBook, cornMonths, cornDay, flat, complexDay, stateOf, answersAfter}
+use Rattle.record.proofs.Examples.{corn, soybeans, oil, meal, chicagoWheat, kcWheat, jul24, sep24, dec24, mar25, may25, jul25, dec25, june3, june4, june5, june26, june27, on, aBook, cornMonths, cornDay, flat, complexDay, quietDay, stateOf, answersAfter, span}
 
 -- a day has ended with Corn at 4,000; the next is open
 abbrev atInitial : List Call
@@ -19,7 +19,7 @@ pub initialEnds :
     ∷ check corn 0 sep24 3798
     ∷ check corn 0 sep24 4202
     ∷ [])
-    ≡ checked Within ∷ checked Within ∷ checked Below ∷ checked Above ∷ []
+    ≡ checked (Within (span 3800 4200)) ∷ checked (Within (span 3800 4200)) ∷ checked (Below (span 3800 4200)) ∷ checked (Above (span 3800 4200)) ∷ []
 unfolding stateOf
 initialEnds = refl
 
@@ -31,7 +31,7 @@ pub miniEnds :
     ∷ check corn 1 sep24 3799
     ∷ check corn 1 sep24 4201
     ∷ [])
-    ≡ checked Within ∷ checked Within ∷ checked Below ∷ checked Above ∷ []
+    ≡ checked (Within (span 3800 4200)) ∷ checked (Within (span 3800 4200)) ∷ checked (Below (span 3800 4200)) ∷ checked (Above (span 3800 4200)) ∷ []
 unfolding stateOf
 miniEnds = refl
 
@@ -50,12 +50,12 @@ pub expandedEnds :
     ∷ check corn 0 jul24 4520
     ∷ check corn 0 jul24 4522
     ∷ [])
-    ≡ checked Within
-    ∷ checked Within
-    ∷ checked Below
-    ∷ checked Above
-    ∷ checked Within
-    ∷ checked Above
+    ≡ checked (Within (span 3680 4320))
+    ∷ checked (Within (span 3680 4320))
+    ∷ checked (Below (span 3680 4320))
+    ∷ checked (Above (span 3680 4320))
+    ∷ checked (Within (span 3880 4520))
+    ∷ checked (Above (span 3880 4520))
     ∷ []
 unfolding stateOf
 expandedEnds = refl
@@ -63,7 +63,7 @@ expandedEnds = refl
 -- ---- spot
 -- left 2: July is not spot
 pub beforeSpot :
-    answersAfter aBook (cornDay june3 flat ++ opening june26 ∷ []) (check corn 0 jul24 4202 ∷ []) ≡ checked Above ∷ []
+    answersAfter aBook (cornDay june3 flat ++ opening june26 ∷ []) (check corn 0 jul24 4202 ∷ []) ≡ checked (Above (span 3800 4200)) ∷ []
 unfolding stateOf
 beforeSpot = refl
 
@@ -71,7 +71,7 @@ beforeSpot = refl
 pub onSpot :
     answersAfter aBook (cornDay june3 flat ++ opening june27 ∷ [])
     (check corn 0 jul24 4202 ∷ check corn 0 jul24 1000000 ∷ check corn 0 sep24 4202 ∷ [])
-    ≡ checked Free ∷ checked Free ∷ checked Above ∷ []
+    ≡ checked Free ∷ checked Free ∷ checked (Above (span 3800 4200)) ∷ []
 unfolding stateOf
 onSpot = refl
 
@@ -114,7 +114,7 @@ noSettlement = refl
 pub monthPassed :
     answersAfter aBook (cornDay june3 flat ++ opening (on 2024 8 1 21) ∷ [])
     (check corn 0 jul24 4000 ∷ check corn 0 sep24 4000 ∷ [])
-    ≡ refused 14 ∷ checked Within ∷ []
+    ≡ refused 14 ∷ checked (Within (span 3800 4200)) ∷ []
 unfolding stateOf
 monthPassed = refl
 
@@ -125,7 +125,7 @@ pub sheetInToday :
     ∷ check corn 0 jul24 4200
     ∷ check corn 0 jul24 4202
     ∷ [])
-    ≡ filed ∷ checked Within ∷ checked Above ∷ []
+    ≡ filed ∷ checked (Within (span 3800 4200)) ∷ checked (Above (span 3800 4200)) ∷ []
 unfolding stateOf
 sheetInToday = refl
 
@@ -140,12 +140,83 @@ pub complexEnds :
     ∷ check meal 0 jul25 4300
     ∷ check meal 0 jul25 4301
     ∷ [])
-    ≡ checked Within
-    ∷ checked Above
-    ∷ checked Within
-    ∷ checked Below
-    ∷ checked Within
-    ∷ checked Above
+    ≡ checked (Within (span 7400 8600))
+    ∷ checked (Above (span 7400 8600))
+    ∷ checked (Within (span 4900 5500))
+    ∷ checked (Below (span 4900 5500))
+    ∷ checked (Within (span 3700 4300))
+    ∷ checked (Above (span 3700 4300))
     ∷ []
 unfolding stateOf
 complexEnds = refl
+
+-- ---- spans at the ends of the prices
+-- a day has ended with Corn's contracts about its limit of 200 and about 1,000,000 less that; the next is open
+abbrev atTheEdges : List Call
+atTheEdges = cornDay june3 (200 ∷ 202 ∷ 204 ∷ 100 ∷ 999800 ∷ 999802 ∷ []) ++ opening june4 ∷ []
+
+-- the low end is not under the tick of the order's size: 2, and 1 for a mini
+pub lowClamped :
+    answersAfter aBook atTheEdges
+    (check corn 0 jul24 2
+    ∷ check corn 1 jul24 1
+    ∷ check corn 0 sep24 2
+    ∷ check corn 1 sep24 1
+    ∷ check corn 0 dec24 2
+    ∷ check corn 0 mar25 302
+    ∷ check corn 1 mar25 301
+    ∷ [])
+    ≡ checked (Within (span 2 400))
+    ∷ checked (Within (span 1 400))
+    ∷ checked (Within (span 2 402))
+    ∷ checked (Below (span 2 402))
+    ∷ checked (Below (span 4 404))
+    ∷ checked (Above (span 2 300))
+    ∷ checked (Above (span 1 300))
+    ∷ []
+unfolding stateOf
+lowClamped = refl
+
+-- the high end is not over 1,000,000
+pub highClamped :
+    answersAfter aBook atTheEdges
+    (check corn 0 may25 1000000 ∷ check corn 0 jul25 1000000 ∷ check corn 1 jul25 999601 ∷ check corn 0 jul25 1000002 ∷ [])
+    ≡ checked (Within (span 999600 1000000))
+    ∷ checked (Within (span 999602 1000000))
+    ∷ checked (Below (span 999602 1000000))
+    ∷ refused 8
+    ∷ []
+unfolding stateOf
+highClamped = refl
+
+-- the three minis at odd prices
+pub oddPrices :
+    answersAfter aBook (quietDay june3 ++ opening june4 ∷ [])
+    (check corn 1 jul25 6199
+    ∷ check corn 1 jul25 6201
+    ∷ check soybeans 1 jul25 8401
+    ∷ check soybeans 1 jul25 7601
+    ∷ check chicagoWheat 1 jul25 3759
+    ∷ check chicagoWheat 1 jul25 3761
+    ∷ [])
+    ≡ checked (Within (span 5800 6200))
+    ∷ checked (Above (span 5800 6200))
+    ∷ checked (Above (span 7600 8400))
+    ∷ checked (Within (span 7600 8400))
+    ∷ checked (Below (span 3760 4240))
+    ∷ checked (Within (span 3760 4240))
+    ∷ []
+unfolding stateOf
+oddPrices = refl
+
+-- a settlement above I and not above E: on the expanded level the low end is the tick
+pub expandedClamped :
+    answersAfter aBook
+    (cornDay june3 (4000 ∷ 300 ∷ 4000 ∷ 4000 ∷ 4000 ∷ 4000 ∷ [])
+    ++ cornDay june4 (4200 ∷ 300 ∷ 4000 ∷ 4000 ∷ 4000 ∷ 4000 ∷ [])
+    ++ opening june5
+    ∷ [])
+    (check corn 0 sep24 2 ∷ check corn 1 sep24 621 ∷ check corn 0 jul24 4522 ∷ [])
+    ≡ checked (Within (span 2 620)) ∷ checked (Above (span 1 620)) ∷ checked (Above (span 3880 4520)) ∷ []
+unfolding stateOf
+expandedClamped = refl

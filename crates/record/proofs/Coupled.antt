@@ -6,14 +6,16 @@ use mathlib.Core.Option.{Option, some, none}
 use lib.Dec.{ltb}
 use borrow.Author.Tests.{le-leb, lt-leb}
 use Rattle.grain.specs.Lists.{distance}
-use Rattle.grain.specs.Check.{verdict}
+use Rattle.grain.specs.Products.{tickOf}
+use Rattle.grain.specs.Check.{spanBy, verdict, isWithin}
+use Rattle.grain.specs.declared.check.Span.{Span}
 use Rattle.grain.specs.declared.check.Verdict.{Verdict}
 use Rattle.grain.specs.declared.check.Verdict.the-variants.{Below, Above}
 use Rattle.record.specs.State.{Level, initial, expanded, Record, groupTable, groupOf, groupAt, productIn, limitAt}
 use Rattle.record.specs.Check.{judged}
 use Rattle.record.specs.Sound.{isExpanded}
 use Rattle.record.specs.Record.{check, checked, termsIn, refusal, answer, answerBy, respond}
-use Rattle.record.specs.Theorems.{OneLevel, BetweenLimits, isWithin}
+use Rattle.record.specs.Theorems.{OneLevel, BetweenLimits}
 
 pub one-level : (r : Record) → OneLevel r
 unfolding groupTable
@@ -25,20 +27,20 @@ one-level r =
       meal = record { level = refl; limit = refl };
     }
 
-not-within : (b : Bool) → isWithin (cond b Below Above) ≡ false
-not-within true = refl
-not-within false = refl
+not-within : (b : Bool) (s : Span) → isWithin (cond b (Below s) (Above s)) ≡ false
+not-within true s = refl
+not-within false s = refl
 
 module _ (r : Record) (p month price : ℕ) (w : BetweenLimits r p month price) where
-  by-level : (l : Level)
+  by-level : (tick : ℕ) (l : Level)
       → isWithin
-      (verdict false (w .settlement) (limitAt l (productIn (groupAt r (groupOf p)) p .initialLimit) (productIn (groupAt r (groupOf p)) p .expandedLimit)) price)
+      (verdict false tick (w .settlement) (limitAt l (productIn (groupAt r (groupOf p)) p .initialLimit) (productIn (groupAt r (groupOf p)) p .expandedLimit)) price)
       ≡ isExpanded l
   unfolding verdict
-  by-level initial =
+  by-level tick initial =
       rw (lt-leb (distance price (w .settlement)) (productIn (groupAt r (groupOf p)) p .initialLimit) (w .beyondInitial))
-      (not-within (ltb price (w .settlement)))
-  by-level expanded =
+      (not-within (ltb price (w .settlement)) (spanBy tick (w .settlement) (productIn (groupAt r (groupOf p)) p .initialLimit)))
+  by-level tick expanded =
       rw (le-leb (distance price (w .settlement)) (productIn (groupAt r (groupOf p)) p .expandedLimit) (w .notBeyondExpanded))
 
   -- what an accepted check answers
@@ -52,7 +54,7 @@ module _ (r : Record) (p month price : ℕ) (w : BetweenLimits r p month price) 
       go (some n) e = cc
       go none e =
           let is : judged (termsIn r p size) month price ≡ v = cc in
-          rw (← is) (rw (w .notSpot, w .isListed) (by-level (groupAt r (groupOf p) .level)))
+          rw (← is) (rw (w .notSpot, w .isListed) (by-level (tickOf p size) (groupAt r (groupOf p) .level)))
 
 pub coupled : (r : Record) (p q i j m n x y : ℕ) (v w : Verdict) → groupOf p ≡ groupOf q
     → BetweenLimits r p m x → BetweenLimits r q n y

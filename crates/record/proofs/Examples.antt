@@ -10,7 +10,8 @@ use Rattle.grain.specs.Prices.{isOnTick}
 use Rattle.grain.specs.Amounts.{expandedBy, seasonBy, isFit}
 use Rattle.grain.specs.Dates.{isLeap, monthLengths, monthLength, isDate, contractMonth, seasonNumber, daysRemaining}
 use Rattle.grain.specs.Spot.{isSpot}
-use Rattle.grain.specs.Check.{verdict}
+use Rattle.grain.specs.Check.{spanBy, verdict}
+use Rattle.grain.specs.declared.check.Span.{Span}
 use Rattle.record.specs.Choices.{concatMap}
 use Rattle.record.specs.State.{Day, Level, Product, Group, Record, groupTable, groupAt}
 use Rattle.record.specs.Founding.{Start, foundProduct, foundGroup, founded, isFitStart}
@@ -204,12 +205,16 @@ daysOf2025 calls (suc n) month day = calls (on 2025 month day 0) ++ daysOf2025 c
 -- ---- what is computed
 -- The Record after a list of calls. Its line opens every definition of the Record, so that a vector names only this one.
 unfoldable pub stateOf : Record → List Call → Record
-unfolding _and_ every isAscending sum steps floors firsts standardTicks miniTicks grainMonths soybeanMonths oilAndMealMonths riceMonths monthsTraded tickOf isTraded isOnTick expandedBy seasonBy isFit isLeap monthLengths monthLength isDate contractMonth seasonNumber daysRemaining isSpot verdict groupTable foundProduct foundGroup founded isFitStart isTrueDay openingTests isRenewed openProduct openGroup isMisshapen hasBadMonth hasBadSettlement lacksContract isBeyond sheetTests fileProduct fileGroup collectedMonth windowAfter productMoves groupMoves eventOf groupEvent endProduct endGroup termsTests orderTests judged isSoundSheet isSoundWindow isSoundProduct isSoundGroup isSoundCommon isSound isOutstanding tests refusal answer nextCommon nextGroup next respond stateAfter answers keptFrom
+unfolding _and_ every isAscending sum steps floors firsts standardTicks miniTicks grainMonths soybeanMonths oilAndMealMonths riceMonths monthsTraded tickOf isTraded isOnTick expandedBy seasonBy isFit isLeap monthLengths monthLength isDate contractMonth seasonNumber daysRemaining isSpot spanBy verdict groupTable foundProduct foundGroup founded isFitStart isTrueDay openingTests isRenewed openProduct openGroup isMisshapen hasBadMonth hasBadSettlement lacksContract isBeyond sheetTests fileProduct fileGroup collectedMonth windowAfter productMoves groupMoves eventOf groupEvent endProduct endGroup termsTests orderTests judged isSoundSheet isSoundWindow isSoundProduct isSoundGroup isSoundCommon isSound isOutstanding tests refusal answer nextCommon nextGroup next respond stateAfter answers keptFrom
 stateOf r cs = stateAfter r cs
 
 -- the answers to further calls after a list of calls
 abbrev pub answersAfter : Record → List Call → List Call → List Answer
 answersAfter r before cs = answers (stateOf r before) cs
+
+-- the lowest and the highest price allowed
+abbrev pub span : ℕ → ℕ → Span
+span low high = record { lowest = low; highest = high }
 
 -- I and E
 pub record Limits : Type 0 where

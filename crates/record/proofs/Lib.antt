@@ -11,6 +11,8 @@ pub mod SoundSheets
 pub mod SoundProducts
 pub mod SoundGroups
 pub mod SoundCalls
+pub mod Settled
+pub mod Resending
 pub mod StaysSound
 pub mod Proved
 pub mod Examples

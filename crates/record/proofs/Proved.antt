@@ -12,6 +12,7 @@ use Rattle.record.specs.Theorems.{after, historyOf, checkAfter, Theorems
 use Rattle.record.proofs.Replayed.{replayed}
 use Rattle.record.proofs.Independence.{same-day, same-group}
 use Rattle.record.proofs.Coupled.{one-level, coupled}
+use Rattle.record.proofs.Resending.{resent}
 use Rattle.record.proofs.StaysSound.{founded-sound, always-sound, never-unsound}
 
 -- a check on a sound Record reads what is common and the product's group
@@ -39,6 +40,7 @@ theorems =
       replayed = replayed;
       oneLevel = λ s cs. one-level (after s cs);
       coupled = λ s cs. coupled (after s cs);
+      resent = λ s cs. resent (after s cs);
       sameDay = same-day;
       sameGroup = same-group;
       sameChecks = same-checks;

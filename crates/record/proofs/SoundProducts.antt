@@ -25,19 +25,19 @@ use Rattle.record.proofs.SoundSheets.{sheet-settlements}
 use Rattle.record.proofs.SoundWindows.{holds, holds-none, holds-emptied, holds-after}
 
 -- I and E of product n
-record Limits (n i e : ℕ) : Type 0 where
-  fit : isFitAmount n i ≡ true
-  expanded : e ≡ expandedOf n i
+pub record Limits (n i e : ℕ) : Type 0 where
+  pub fit : isFitAmount n i ≡ true
+  pub expanded : e ≡ expandedOf n i
 
 -- what soundness says of a product, test by test
-record Facts (q : Product) : Type 0 where
-  number : isProduct (q .number) ≡ true
-  limits : Limits (q .number) (q .initialLimit) (q .expandedLimit)
-  window : holds (isSettlement (q .number)) (q .window) ≡ true
-  today : isSoundSheet (q .number) (q .today) ≡ true
-  last : isSoundSheet (q .number) (q .last) ≡ true
+pub record Facts (q : Product) : Type 0 where
+  pub number : isProduct (q .number) ≡ true
+  pub limits : Limits (q .number) (q .initialLimit) (q .expandedLimit)
+  pub window : holds (isSettlement (q .number)) (q .window) ≡ true
+  pub today : isSoundSheet (q .number) (q .today) ≡ true
+  pub last : isSoundSheet (q .number) (q .last) ≡ true
 
-facts : (q : Product) → isSoundProduct q ≡ true → Facts q
+pub facts : (q : Product) → isSoundProduct q ≡ true → Facts q
 unfolding isSoundProduct isSoundWindow
 facts q t =
     let t₅ = and-left _ _ t in

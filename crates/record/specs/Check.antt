@@ -47,4 +47,4 @@ orderTests t month price =
 
 unfoldable pub judged : Terms → ℕ → ℕ → Verdict
 judged t month price =
-    verdict (isSpot (t .date) month) (orElse (listed (t .date) (t .last) month) 0) (t .limit) price
+    verdict (isSpot (t .date) month) (t .tick) (orElse (listed (t .date) (t .last) month) 0) (t .limit) price

@@ -1,13 +1,15 @@
 -- What is shown of the Record, for every list of calls from a founded one. proofs/Proved.antt has the proofs.
 use Prim.Native.Nat.{ℕ, _<_, _≤_}
 use mathlib.Core.Path.{_≡_}
-use mathlib.Core.Bool.{Bool, true, false, not}
+use mathlib.Core.Bool.{Bool, true, false, not, _&&_}
 use mathlib.Core.List.{List}
 use mathlib.Core.Option.{some}
-use lib.Dec.{eqb}
+use lib.Dec.{leb, eqb}
 use Rattle.grain.specs.Lists.{every, distance}
+use Rattle.grain.specs.Check.{spanIn, isWithin}
+use Rattle.grain.specs.declared.check.Span.{Span}
 use Rattle.grain.specs.declared.check.Verdict.{Verdict}
-use Rattle.grain.specs.declared.check.Verdict.the-variants.{Free, Within, Below, Above}
+use Rattle.grain.specs.declared.check.Verdict.the-variants.{Within}
 use Rattle.record.specs.Refusals.{unsound}
 use Rattle.record.specs.State.{Level, Record, dayOf, tradeDate, isSpotOn, groupOf, groupAt, productIn, limitAt, todaysLimit, sheetOr}
 use Rattle.record.specs.Founding.{Start, isFitStart, founded}
@@ -62,11 +64,15 @@ pub record BetweenLimits (r : Record) (p month price : ℕ) : Type 0 where
   pub beyondInitial : productIn (groupAt r (groupOf p)) p .initialLimit < distance price settlement
   pub notBeyondExpanded : distance price settlement ≤ productIn (groupAt r (groupOf p)) p .expandedLimit
 
-abbrev pub isWithin : Verdict → Bool
-isWithin Free = false
-isWithin Within = true
-isWithin Below = false
-isWithin Above = false
+-- ---- spans
+
+-- the prices that a check of the contract finds within are those from the lowest to the highest of the span, of the prices that pass 8
+pub record Resent (r : Record) (p size month : ℕ) (s : Span) : Type 0 where
+  pub atLowest : respond r (check p size month (s .lowest)) .answer ≡ checked (Within s)
+  pub atHighest : respond r (check p size month (s .highest)) .answer ≡ checked (Within s)
+  pub elsewhere :
+      (price : ℕ) (v : Verdict) → respond r (check p size month price) .answer ≡ checked v
+      → isWithin v ≡ (leb (s .lowest) price && leb price (s .highest))
 
 -- ---- the theorems
 pub record Theorems : Type 0 where
@@ -84,6 +90,10 @@ pub record Theorems : Type 0 where
       (s : Start) (cs : List Call) (p q i j m n x y : ℕ) (v w : Verdict) → groupOf p ≡ groupOf q
       → BetweenLimits (after s cs) p m x → BetweenLimits (after s cs) q n y
       → checkAfter s cs p i m x ≡ checked v → checkAfter s cs q j n y ≡ checked w → isWithin v ≡ isWithin w
+  -- an order that is sent again at an end of the span that its check showed is within, and so are those between, and no others
+  pub resent :
+      (s : Start) (cs : List Call) (p size month price : ℕ) (v : Verdict) (allowed : Span)
+      → checkAfter s cs p size month price ≡ checked v → spanIn v ≡ some allowed → Resent (after s cs) p size month allowed
   -- two lists with the same openings and ends accepted and the same sheets of one group on each day: the same day is open after both, or none
   pub sameDay :
       (s : Start) (g : ℕ) (cs ds : List Call) → SameFor g (historyOf s cs) (historyOf s ds)

@@ -32,9 +32,9 @@ takes t = eqb (tallyRefusal t) 0
 
 abbrev pub kindOfVerdict : Verdict → Kind
 kindOfVerdict verdict.Free = Free
-kindOfVerdict verdict.Within = Within
-kindOfVerdict verdict.Below = Below
-kindOfVerdict verdict.Above = Above
+kindOfVerdict (verdict.Within s) = Within
+kindOfVerdict (verdict.Below s) = Below
+kindOfVerdict (verdict.Above s) = Above
 
 -- one more asked, and one more of the kind
 abbrev pub oneMore : Tally → Kind → Tally

@@ -36,8 +36,8 @@ pub fn kind_of_verdict(verdict: Verdict) -> Kind
 {
     match verdict {
         Verdict::Free => Kind::Free,
-        Verdict::Within => Kind::Within,
-        Verdict::Below => Kind::Below,
-        Verdict::Above => Kind::Above,
+        Verdict::Within(_) => Kind::Within,
+        Verdict::Below(_) => Kind::Below,
+        Verdict::Above(_) => Kind::Above,
     }
 }

@@ -4,6 +4,7 @@ use crate::text::output::put;
 use crate::text::output::put_bit;
 use crate::text::output::put_byte;
 use crate::text::output::put_number;
+use grain::Span;
 use grain::Verdict;
 use record::Event;
 use record::GroupEvent;
@@ -15,12 +16,34 @@ pub(crate) fn put_refusal(out: &mut Buffer, at: usize, refusal: u32) -> usize {
     put_byte(out, b, b'\n')
 }
 
+// A span's ends, or a leading contract's month and product.
+fn put_pair(out: &mut Buffer, at: usize, first: u32, second: u32) -> usize {
+    let a = put_byte(out, at, b':');
+    let b = put_number(out, a, first);
+    let c = put_byte(out, b, b':');
+    put_number(out, c, second)
+}
+
+fn put_span(out: &mut Buffer, at: usize, span: Span) -> usize {
+    let a = put_pair(out, at, span.lowest, span.highest);
+    put_byte(out, a, b'\n')
+}
+
 pub(crate) fn put_verdict(out: &mut Buffer, at: usize, verdict: Verdict) -> usize {
     match verdict {
         Verdict::Free => put(out, at, b"free\n"),
-        Verdict::Within => put(out, at, b"within\n"),
-        Verdict::Below => put(out, at, b"below\n"),
-        Verdict::Above => put(out, at, b"above\n"),
+        Verdict::Within(span) => {
+            let a = put(out, at, b"within");
+            put_span(out, a, span)
+        }
+        Verdict::Below(span) => {
+            let a = put(out, at, b"below");
+            put_span(out, a, span)
+        }
+        Verdict::Above(span) => {
+            let a = put(out, at, b"above");
+            put_span(out, a, span)
+        }
     }
 }
 
@@ -34,10 +57,7 @@ pub(crate) fn put_renewed(out: &mut Buffer, at: usize, renewed: [bool; 8]) -> us
 }
 
 fn put_lead(out: &mut Buffer, at: usize, lead: Lead) -> usize {
-    let a = put_byte(out, at, b':');
-    let b = put_number(out, a, lead.month);
-    let c = put_byte(out, b, b':');
-    put_number(out, c, lead.product)
+    put_pair(out, at, lead.month, lead.product)
 }
 
 fn put_event(out: &mut Buffer, at: usize, event: Event) -> usize {

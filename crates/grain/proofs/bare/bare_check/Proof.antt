@@ -7,7 +7,7 @@ use borrow.Author.Tests.{eq-eqb, ne-eqb, not-true, not-false}
 use Rattle.grain.specs.Products.{tickOf}
 use Rattle.grain.specs.Prices.{isPrice, isSettlement}
 use Rattle.grain.specs.Amounts.{isFitAmount}
-use Rattle.grain.specs.Bare.{bareCheck}
+use Rattle.grain.specs.Bare.{bareAnswer}
 use Rattle.grain.proofs.bare.bare_check.Statement.{statement}
 use Rattle.grain.proofs.bare.bare_check.Tie as tie
 
@@ -35,14 +35,14 @@ tick-requires : tie.Need-tick-requires
 tick-requires c κs = search needs
 
 returns : tie.Need-returns
-unfolding bareCheck
+unfolding bareAnswer
 returns c = simp (eq-eqb _ _ (sym (c .before .tick .ensures) ∙ c .if1 .taken))
 
 is-settlement-requires : tie.Need-is-settlement-requires
 is-settlement-requires c κs = search needs
 
 returns-2 : tie.Need-returns-2
-unfolding bareCheck
+unfolding bareAnswer
 returns-2 c =
     simp (offered (c .before .before), sym (c .before .is-settlement .ensures) ∙ not-true _ (c .if2 .taken))
 
@@ -50,7 +50,7 @@ is-on-tick-requires : tie.Need-is-on-tick-requires
 is-on-tick-requires c κs = search needs
 
 returns-3 : tie.Need-returns-3
-unfolding bareCheck
+unfolding bareAnswer
 returns-3 c =
     let k = c .before .before in
     let off =
@@ -61,7 +61,7 @@ is-fit-amount-requires : tie.Need-is-fit-amount-requires
 is-fit-amount-requires c κs = search needs
 
 returns-4 : tie.Need-returns-4
-unfolding bareCheck
+unfolding bareAnswer
 returns-4 c =
     let k = c .before .before in
     simp
@@ -71,11 +71,11 @@ judge-requires : tie.Need-judge-requires
 judge-requires c κs = search needs
 
 returns-5 : tie.Need-returns-5
-unfolding bareCheck
+unfolding bareAnswer
 returns-5 c =
     let k = c .before in
     simp
-    (offered (k .before .before .before .before .before .before), settled (k .before .before .before .before), priced (k .before .before), fit k, c .judge .ensures)
+    (offered (k .before .before .before .before .before .before), settled (k .before .before .before .before), priced (k .before .before), fit k, c .judge .ensures, k .before .before .before .before .before .before .before .tick .ensures)
 
 pub bare-check-spec : {M : Type 1} → statement M
 bare-check-spec =

@@ -1,0 +1,155 @@
+-- What one accepted check says of every other price of its contract.
+use Prim.Native.Nat.{ℕ, _≤_}
+use mathlib.Core.Path.{_≡_, refl, sym, _∙_, ap}
+use mathlib.Core.Bool.{Bool, true, false, not, _&&_, cond}
+use mathlib.Core.List.{_∷_}
+use mathlib.Core.Option.{Option, some, none}
+use lib.Dec.{leb, ltb}
+use borrow.Author.Tests.{le-leb, not-false}
+use native.Mathlib.Omega.{arith}
+use Rattle.grain.specs.Lists.{distance}
+use Rattle.grain.specs.Products.{isOffered}
+use Rattle.grain.specs.Prices.{isPrice}
+use Rattle.grain.specs.Check.{spanBy, verdict, spanIn, isWithin}
+use Rattle.grain.specs.Spot.{isSpot}
+use Rattle.grain.specs.Spans.{SpanOf}
+use Rattle.grain.specs.declared.check.Span.{Span}
+use Rattle.grain.specs.declared.check.Verdict.{Verdict}
+use Rattle.grain.specs.declared.check.Verdict.the-variants.{Within, Below, Above}
+use Rattle.grain.proofs.Spanned.{every-span}
+use Rattle.record.specs.Choices.{isSome}
+use Rattle.record.specs.Refusals.{when, unsound}
+use Rattle.record.specs.State.{Record}
+use Rattle.record.specs.Check.{Terms, listed, termsTests, orderTests, judged}
+use Rattle.record.specs.Sound.{isSound}
+use Rattle.record.specs.Record.{check, checked, termsIn, tests, refusal, answer, answerBy, respond}
+use Rattle.record.specs.Theorems.{Resent}
+use Rattle.record.proofs.Cleared.{cleared}
+use Rattle.record.proofs.Settled.{rests}
+
+-- ---- verdicts that are not free
+within-is : (t x l price : ℕ) → isWithin (verdict false t x l price) ≡ true → verdict false t x l price ≡ Within (spanBy t x l)
+unfolding verdict
+within-is t x l price e = go (leb (distance price x) l) (ltb price x) e
+  where
+    go : (a b : Bool) → isWithin (cond a (Within (spanBy t x l)) (cond b (Below (spanBy t x l)) (Above (spanBy t x l)))) ≡ true
+        → cond a (Within (spanBy t x l)) (cond b (Below (spanBy t x l)) (Above (spanBy t x l))) ≡ Within (spanBy t x l)
+    go true b h = refl
+    go false true h = let z : _≡_ {A = Bool} false true = h in cc
+    go false false h = let z : _≡_ {A = Bool} false true = h in cc
+
+-- a verdict that carries a span is of a contract that is not spot, and the span is that of the terms
+record Carried (spot : Bool) (t x l : ℕ) (s : Span) : Type 0 where
+  notSpot : spot ≡ false
+  isSpan : s ≡ spanBy t x l
+
+carried : (spot : Bool) (t x l price : ℕ) (s : Span) → spanIn (verdict spot t x l price) ≡ some s → Carried spot t x l s
+unfolding verdict
+carried true t x l price s e = let z : _≡_ {A = Option Span} none (some s) = e in record { notSpot = cc; isSpan = cc }
+carried false t x l price s e = record { notSpot = refl; isSpan = go (leb (distance price x) l) (ltb price x) e }
+  where
+    go : (a b : Bool) → spanIn (cond a (Within (spanBy t x l)) (cond b (Below (spanBy t x l)) (Above (spanBy t x l)))) ≡ some s → s ≡ spanBy t x l
+    go true b h = let z : some (spanBy t x l) ≡ some s = h in cc
+    go false true h = let z : some (spanBy t x l) ≡ some s = h in cc
+    go false false h = let z : some (spanBy t x l) ≡ some s = h in cc
+
+-- ---- an accepted check
+some-of : (o : Option ℕ) → isSome o ≡ true → (x : ℕ) × (o ≡ some x)
+some-of none e = let z : _≡_ {A = Bool} false true = e in (0, cc)
+some-of (some x) e = (x, refl)
+
+module _ (r : Record) (p size month : ℕ) where
+  abbrev on : Terms
+  on = termsIn r p size
+
+  -- what passed its tests
+  record Passed (price : ℕ) (v : Verdict) : Type 0 where
+    sound : isSound r ≡ true
+    isOpen : r .common .isOpen ≡ true
+    offered : isOffered p size ≡ true
+    isListed : isSome (listed (on .date) (on .last) month) ≡ true
+    passes : isPrice p size price ≡ true
+    is : judged on month price ≡ v
+
+  accepted : (price : ℕ) (v : Verdict) → respond r (check p size month price) .answer ≡ checked v
+      → (refusal r (check p size month price) ≡ none) × (judged on month price ≡ v)
+  unfolding respond answer
+  accepted price v e = go (refusal r (check p size month price)) e
+    where
+      go : (o : Option ℕ) → answerBy o (checked (judged on month price)) ≡ checked v → (o ≡ none) × (judged on month price ≡ v)
+      go (some n) h = (cc, cc)
+      go none h = (refl, cc)
+
+  passed : (price : ℕ) (v : Verdict) → respond r (check p size month price) .answer ≡ checked v → Passed price v
+  unfolding refusal tests termsTests orderTests
+  passed price v e =
+      let a = accepted price v e in
+      let c = cleared (when (not (isSound r)) unsound ∷ tests r (check p size month price)) (a .0) in
+      record {
+        sound = not-false _ (c .0);
+        isOpen = not-false _ (c .1 .0);
+        offered = not-false _ (c .1 .1 .0);
+        isListed = not-false _ (c .1 .1 .1 .0);
+        passes = not-false _ (c .1 .1 .1 .1 .0);
+        is = a .1;
+      }
+
+  -- the same contract at another price that passes 8
+  again : (price other : ℕ) (v : Verdict) → Passed price v → isPrice p size other ≡ true
+      → respond r (check p size month other) .answer ≡ checked (judged on month other)
+  unfolding respond refusal tests termsTests orderTests answer
+  again price other v k e = rw (k .sound, k .isOpen, k .offered, k .isListed, e)
+
+  -- a listed settlement
+  module _ (x : ℕ) (found : listed (on .date) (on .last) month ≡ some x) where
+    judged-by : (price : ℕ) → judged on month price ≡ verdict (isSpot (on .date) month) (on .tick) x (on .limit) price
+    unfolding judged
+    judged-by price = rw found
+
+    -- and a verdict with a span
+    module _ (price : ℕ) (v : Verdict) (k : Passed price v) (s : Span) (has : spanIn v ≡ some s) where
+      is-carried : Carried (isSpot (on .date) month) (on .tick) x (on .limit) s
+      is-carried = carried _ _ _ _ price s (ap spanIn (sym (judged-by price) ∙ k .is) ∙ has)
+
+      judged-limited : (other : ℕ) → judged on month other ≡ verdict false (on .tick) x (on .limit) other
+      judged-limited other = judged-by other ∙ rw (is-carried .notSpot)
+
+      is-span : SpanOf p size x (on .limit) (spanBy (on .tick) x (on .limit))
+      is-span =
+          let rest = rests r (k .sound) p (on .date) month x found in
+          every-span p size x (on .limit) (k .offered) (rest .settled) (rest .fit)
+
+      at-end : (end : ℕ) → isPrice p size end ≡ true → isWithin (verdict false (on .tick) x (on .limit) end) ≡ true
+          → respond r (check p size month end) .answer ≡ checked (Within (spanBy (on .tick) x (on .limit)))
+      at-end end passes within =
+          again price end v k passes ∙ ap checked (judged-limited end ∙ within-is (on .tick) x (on .limit) end within)
+
+      elsewhere : (other : ℕ) (w : Verdict) → respond r (check p size month other) .answer ≡ checked w
+          → isWithin w ≡ (leb (spanBy (on .tick) x (on .limit) .lowest) other && leb other (spanBy (on .tick) x (on .limit) .highest))
+      elsewhere other w e =
+          let j = passed other w e in
+          ap isWithin (sym (j .is) ∙ judged-limited other) ∙ is-span .within other (j .passes)
+
+      resent-by : Resent r p size month s
+      resent-by =
+          let f = is-span in
+          let low = spanBy (on .tick) x (on .limit) .lowest in
+          let high = spanBy (on .tick) x (on .limit) .highest in
+          let wide : low ≤ high = omega (arith, f .fromLowest, f .toHighest) in
+          rw (is-carried .isSpan)
+          record {
+            atLowest =
+                at-end low (f .lowestPasses)
+                (f .within low (f .lowestPasses) ∙ rw (le-leb low low (omega arith), le-leb low high wide));
+            atHighest =
+                at-end high (f .highestPasses)
+                (f .within high (f .highestPasses) ∙ rw (le-leb low high wide, le-leb high high (omega arith)));
+            elsewhere = elsewhere;
+          }
+
+pub resent : (r : Record) (p size month price : ℕ) (v : Verdict) (s : Span)
+    → respond r (check p size month price) .answer ≡ checked v → spanIn v ≡ some s → Resent r p size month s
+resent r p size month price v s e has =
+    let k = passed r p size month price v e in
+    let found = some-of _ (k .isListed) in
+    resent-by r p size month (found .0) (found .1) price v k s has
