@@ -74,6 +74,13 @@ typedef struct botskhela_tally {
     uint32_t refused;
 } botskhela_tally;
 
+/* What a check answers, and the span of prices that it goes by. */
+typedef struct botskhela_span {
+    uint32_t answer;  /* an answer of a check, or a refusal */
+    uint32_t lowest;  /* the lowest price allowed, 0 where the check is free or refused */
+    uint32_t highest; /* the highest price allowed, 0 where the check is free or refused */
+} botskhela_span;
+
 /* A product's limits. */
 typedef struct botskhela_limit {
     uint32_t initial;
@@ -175,6 +182,7 @@ BOTSKHELA_ASSERT(sizeof(botskhela_contract) == 4 * 2, "botskhela_contract");
 BOTSKHELA_ASSERT(sizeof(botskhela_product_sheet) == 4 * 33, "botskhela_product_sheet");
 BOTSKHELA_ASSERT(sizeof(botskhela_event) == 4 * 3, "botskhela_event");
 BOTSKHELA_ASSERT(sizeof(botskhela_tally) == 4 * 6, "botskhela_tally");
+BOTSKHELA_ASSERT(sizeof(botskhela_span) == 4 * 3, "botskhela_span");
 #undef BOTSKHELA_AT
 #undef BOTSKHELA_ASSERT
 
@@ -215,6 +223,19 @@ uint32_t botskhela_bare_check(uint32_t product, uint32_t size, uint32_t settleme
                               uint32_t amount, uint32_t spot, uint32_t price);
 
 /*
+ * The ends of the span of prices that the bare check of the same arguments goes by: the lowest and the highest price that it
+ * finds within. Both are 0 where it is free or refused.
+ *
+ * The lowest is the settlement minus the amount, but not under the tick of the product and size; the highest is the
+ * settlement plus the amount, but not over 1,000,000. Both are prices on that tick, the settlement is not below the one nor
+ * above the other, and of the prices on that tick exactly those from the lowest to the highest are within.
+ */
+uint32_t botskhela_bare_lowest(uint32_t product, uint32_t size, uint32_t settlement,
+                               uint32_t amount, uint32_t spot, uint32_t price);
+uint32_t botskhela_bare_highest(uint32_t product, uint32_t size, uint32_t settlement,
+                                uint32_t amount, uint32_t spot, uint32_t price);
+
+/*
  * The same check through a tally, which is not null.
  *
  * Returns BOTSKHELA_UNSOUND, where asked is not the sum of the other five, then BOTSKHELA_TALLY_FULL, and leaves the tally
@@ -233,7 +254,7 @@ uint32_t botskhela_tallied_check(botskhela_tally *tally, uint32_t product, uint3
  * book is not null, is aligned as a uint32_t, and has sizeof(botskhela_book) bytes that may be read and, unless it is const,
  * written. One call at a time may write a book, and none may read it meanwhile; any number may read it at once.
  *
- * The calls but the two checks return 0 where they are accepted. Refused, they return the first refusal that applies, in the
+ * The calls but the checks return 0 where they are accepted. Refused, they return the first refusal that applies, in the
  * order given, and no byte of the book has changed. They return no other number.
  *
  * What is proved of each call stands in crates/gateway/specs/Calls.antt, and of whole lists of calls on one book in Images.antt:
@@ -284,6 +305,13 @@ uint32_t botskhela_end(botskhela_book *book);
  */
 uint32_t botskhela_check(const botskhela_book *book, uint32_t product, uint32_t size, uint32_t month,
                          uint32_t price);
+
+/*
+ * The same check, with its span: answer is what botskhela_check returns, refusals included, and lowest and highest are the ends
+ * that the bare check of the contract's settlement and today's limit has. An order sent again at an end is within.
+ */
+botskhela_span botskhela_check_span(const botskhela_book *book, uint32_t product, uint32_t size, uint32_t month,
+                                    uint32_t price);
 
 /*
  * The same check through a tally, which is not null and does not overlap the book.
