@@ -157,9 +157,9 @@ answers_in_turn() {
     without_checks "$history" | grep -v '^#' | grep . | sed "s/\$/\ncheck $followed/" | "$replay" | sed -n 'n;p' | sed '
         s/^refused 2$/reject no day open, or one still open/
         s/^refused 14$/reject month not listed/
-        s/^within$/accept within/
-        s/^below$/reject below limit/
-        s/^above$/reject above limit/' | uniq
+        s/^within:[0-9]*:[0-9]*$/accept within/
+        s/^below:[0-9]*:[0-9]*$/reject below limit/
+        s/^above:[0-9]*:[0-9]*$/reject above limit/' | uniq
 }
 
 # Whether every line of the second list stands in the first, in the same order.

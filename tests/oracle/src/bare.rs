@@ -4,6 +4,7 @@ use crate::amounts;
 use crate::prices;
 use crate::products;
 use crate::refusal::Refusal;
+use crate::verdict::{SpanWords, Verdict};
 
 /// The six numbers of a bare check.
 #[derive(Clone, Copy, Debug)]
@@ -30,14 +31,6 @@ impl From<[u32; 6]> for Order {
     }
 }
 
-#[derive(Clone, Copy, Debug, PartialEq, Eq)]
-pub enum Verdict {
-    Free = 100,
-    Within = 101,
-    Below = 102,
-    Above = 103,
-}
-
 /// The verdict, or the first refusal in the order 5, 8, 13; spot or not, each is looked for.
 pub fn check(order: &Order) -> Result<Verdict, Refusal> {
     let product = products::product(order.product).ok_or(Refusal::Product)?;
@@ -51,44 +44,34 @@ pub fn check(order: &Order) -> Result<Verdict, Refusal> {
     if !amounts::fits(product, order.amount) {
         return Err(Refusal::Amount);
     }
-    Ok(verdict(order))
-}
-
-/// The verdict on numbers that are all sound.
-fn verdict(order: &Order) -> Verdict {
     if order.spot != 0 {
-        return Verdict::Free;
+        return Ok(Verdict::Free);
     }
-    if order.price.abs_diff(order.settlement) <= order.amount {
-        return Verdict::Within;
-    }
-    if order.price < order.settlement {
-        return Verdict::Below;
-    }
-    Verdict::Above
+    Ok(Verdict::limited(
+        order.price,
+        order.settlement,
+        order.amount,
+        tick,
+    ))
 }
 
 /// The number that C sees.
 pub fn number(order: &Order) -> u32 {
-    match check(order) {
-        Ok(verdict) => verdict as u32,
-        Err(refusal) => refusal.number(),
-    }
+    SpanWords::from(check(order)).answer
 }
 
-/// The bare check for the C test that compares it with the proved one.
+/// The bare check and its ends, for the C test that compares them with the proved ones.
 #[no_mangle]
-pub extern "C" fn oracle_bare_check(
+pub extern "C" fn oracle_bare_span(
     product: u32,
     size: u32,
     settlement: u32,
     amount: u32,
     spot: u32,
     price: u32,
-) -> u32 {
-    number(&Order::from([
-        product, size, settlement, amount, spot, price,
-    ]))
+) -> SpanWords {
+    let order = Order::from([product, size, settlement, amount, spot, price]);
+    SpanWords::from(check(&order))
 }
 
 #[cfg(test)]
@@ -109,6 +92,18 @@ mod tests {
         assert_eq!(answer([CORN, 0, 6_000, 200, 0, 5_800]), 101);
         assert_eq!(answer([CORN, 0, 6_000, 200, 0, 6_202]), 103);
         assert_eq!(answer([CORN, 0, 6_000, 200, 0, 5_798]), 102);
+    }
+
+    #[test]
+    fn the_low_end_is_that_of_the_size() {
+        let lowest = |numbers: [u32; 6]| {
+            let span = check(&Order::from(numbers)).ok().and_then(Verdict::span);
+            span.map(|span| span.lowest)
+        };
+        assert_eq!(lowest([CORN, 0, 100, 200, 0, 100]), Some(2));
+        assert_eq!(lowest([CORN, 1, 100, 200, 0, 101]), Some(1));
+        assert_eq!(lowest([CORN, 1, 100, 200, 1, 101]), None);
+        assert_eq!(lowest([CORN, 0, 100, 200, 0, 101]), None);
     }
 
     #[test]

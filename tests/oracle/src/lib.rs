@@ -14,3 +14,4 @@ pub mod refusal;
 pub mod season;
 pub mod tally;
 pub mod testing;
+pub mod verdict;

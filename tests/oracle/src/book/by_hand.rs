@@ -3,6 +3,7 @@
 use super::end::Event;
 use super::{Book, GROUP_COUNT};
 use crate::products::PRODUCTS;
+use crate::verdict::Span;
 
 pub const CORN: usize = 0;
 pub const SOYBEANS: usize = 1;
@@ -17,6 +18,12 @@ pub const JULY: u32 = 2024 * 12 + 6;
 pub const FIRST_SETTLEMENT: u32 = 6_000;
 
 pub const LIMITS: [u32; 8] = [200, 400, 200, 200, 240, 240, 160, 100];
+
+/// Of Corn on the second day.
+pub const CORN_SPAN: Span = Span {
+    lowest: 5_800,
+    highest: 6_200,
+};
 
 /// A product, the place of a contract on its sheet, and its change.
 pub type Change = (usize, usize, i64);

@@ -1,11 +1,11 @@
 //! The check of an order's price on the open day.
 
 use super::Book;
-use crate::bare::Verdict;
 use crate::dates::is_spot;
 use crate::prices;
 use crate::products;
 use crate::refusal::Refusal;
+use crate::verdict::Verdict;
 
 impl Book {
     /// The verdict, or the first refusal in the order 1, 2, 5, 14, 8.
@@ -35,17 +35,7 @@ impl Book {
         if is_spot(month, date, left) {
             return Ok(Verdict::Free);
         }
-        Ok(verdict(price, last, self.limit_today(product)))
+        let limit = self.limit_today(product);
+        Ok(Verdict::limited(price, last, limit, tick))
     }
-}
-
-/// The ends of the limit are within.
-fn verdict(price: u32, last: u32, limit: u32) -> Verdict {
-    if price.abs_diff(last) <= limit {
-        return Verdict::Within;
-    }
-    if price < last {
-        return Verdict::Below;
-    }
-    Verdict::Above
 }

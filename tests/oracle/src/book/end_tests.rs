@@ -1,10 +1,10 @@
 //! The marked numbers (h) to (n), and further ends by hand.
 
-use super::by_hand::{contracts, Trial, CORN, JULY, LIMITS, MEAL, OATS, OIL, SOYBEANS};
+use super::by_hand::{contracts, Trial, CORN, CORN_SPAN, JULY, LIMITS, MEAL, OATS, OIL, SOYBEANS};
 use super::end::{Contract, Event};
 use super::{Level, Limits, Standing};
-use crate::bare::Verdict;
 use crate::refusal::Refusal;
+use crate::verdict::{Span, Verdict};
 
 const EXPANDED: Standing = Standing {
     level: Level::Expanded,
@@ -42,7 +42,10 @@ fn marked_h_july_is_free_on_27_june_with_left_1() {
     let mut trial = corn();
     trial.next_day = 26;
     trial.open_with(2);
-    assert_eq!(trial.book.check(0, 0, JULY, 9_000), Ok(Verdict::Above));
+    assert_eq!(
+        trial.book.check(0, 0, JULY, 9_000),
+        Ok(Verdict::Above(CORN_SPAN))
+    );
     trial.rest_of_day(&[]);
     trial.open_with(1);
     assert_eq!(trial.book.check(0, 0, JULY, 9_000), Ok(Verdict::Free));
@@ -117,14 +120,17 @@ fn marked_n_oil_alone_expands_all_three() {
     assert_eq!(trial.book.standings[1], EXPANDED);
     trial.open();
     for (product, limit) in [(1, 600), (2, 300), (3, 300)] {
-        let price = 6_000 + limit;
+        let span = Span {
+            lowest: 6_000 - limit,
+            highest: 6_000 + limit,
+        };
         assert_eq!(
-            trial.book.check(product, 0, JULY, price),
-            Ok(Verdict::Within)
+            trial.book.check(product, 0, JULY, span.highest),
+            Ok(Verdict::Within(span))
         );
         assert_eq!(
-            trial.book.check(product, 0, JULY, price + 2),
-            Ok(Verdict::Above)
+            trial.book.check(product, 0, JULY, span.highest + 2),
+            Ok(Verdict::Above(span))
         );
     }
 }

@@ -1,9 +1,9 @@
 //! Sheets and checks by hand, with their refusals in order.
 
-use super::by_hand::{contracts, Trial, JULY, LIMITS};
+use super::by_hand::{contracts, Trial, CORN_SPAN, JULY, LIMITS};
 use super::Book;
-use crate::bare::Verdict;
 use crate::refusal::Refusal;
+use crate::verdict::Verdict;
 
 /// A book on its second day, with ten contracts at 6,000 on the last ended sheets.
 fn second_day() -> Book {
@@ -157,15 +157,18 @@ fn spot_contracts_may_leave_and_move() {
 fn a_check_answers_by_the_limit() {
     let book = second_day();
     for (price, verdict) in [
-        (6_200, Verdict::Within),
-        (5_800, Verdict::Within),
-        (6_202, Verdict::Above),
-        (5_798, Verdict::Below),
+        (6_200, Verdict::Within(CORN_SPAN)),
+        (5_800, Verdict::Within(CORN_SPAN)),
+        (6_202, Verdict::Above(CORN_SPAN)),
+        (5_798, Verdict::Below(CORN_SPAN)),
     ] {
         assert_eq!(book.check(0, 0, JULY, price), Ok(verdict), "{price}");
     }
-    assert_eq!(book.check(0, 1, JULY, 6_201), Ok(Verdict::Above));
-    assert_eq!(book.check(0, 1, JULY, 6_199), Ok(Verdict::Within));
+    assert_eq!(book.check(0, 1, JULY, 6_201), Ok(Verdict::Above(CORN_SPAN)));
+    assert_eq!(
+        book.check(0, 1, JULY, 6_199),
+        Ok(Verdict::Within(CORN_SPAN))
+    );
 }
 
 #[test]
@@ -201,5 +204,5 @@ fn todays_sheets_change_no_check() {
     let mut book = second_day();
     let (months, _) = corn();
     book.file(0, &months, &[6_200; 10]).expect("a sheet");
-    assert_eq!(book.check(0, 0, JULY, 6_202), Ok(Verdict::Above));
+    assert_eq!(book.check(0, 0, JULY, 6_202), Ok(Verdict::Above(CORN_SPAN)));
 }

@@ -2,11 +2,12 @@
 
 use super::call::{self, Call};
 use super::show;
-use crate::bare::{self, Order, Verdict};
+use crate::bare::{self, Order};
 use crate::book::end::Event;
 use crate::book::opening::NewLimits;
 use crate::book::{Book, GROUP_COUNT};
 use crate::refusal::Refusal;
+use crate::verdict::{Span, Verdict};
 
 pub const NOT_A_CALL: &str = "not a call";
 pub const NO_BOOK: &str = "no book";
@@ -90,11 +91,14 @@ fn event(event: Event) -> String {
 
 /// The line of an accepted check.
 pub fn verdict(verdict: Verdict) -> String {
-    let word = match verdict {
-        Verdict::Free => "free",
-        Verdict::Within => "within",
-        Verdict::Below => "below",
-        Verdict::Above => "above",
-    };
-    word.to_string()
+    match verdict {
+        Verdict::Free => "free".to_string(),
+        Verdict::Within(span) => with_span("within", span),
+        Verdict::Below(span) => with_span("below", span),
+        Verdict::Above(span) => with_span("above", span),
+    }
+}
+
+fn with_span(kind: &str, Span { lowest, highest }: Span) -> String {
+    format!("{kind}:{lowest}:{highest}")
 }

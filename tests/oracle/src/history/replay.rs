@@ -50,8 +50,8 @@ mod tests {
     fn before_a_founding() {
         let history = "end\nopen 2024 6 27 1\nsheet 0 months settlements\ncheck 9 9 9 9\nbook\n\
                        bare 0 0 6000 200 0 6200\nend 1\nfound 1 2 3 4 5 6 7 8\nend";
-        let expected = "no book\nno book\nno book\nno book\nno book\nwithin\nnot a call\n\
-                        refused 13\nno book\n";
+        let expected = "no book\nno book\nno book\nno book\nno book\nwithin:5800:6200\n\
+                        not a call\nrefused 13\nno book\n";
         assert_eq!(answers_to(history), expected);
     }
 

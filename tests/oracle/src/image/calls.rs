@@ -4,6 +4,7 @@ use super::Image;
 use crate::book::{Book, PRODUCT_COUNT};
 use crate::refusal::Refusal;
 use crate::tally::Tally;
+use crate::verdict::SpanWords;
 
 /// What every call but a check returns where it is accepted.
 pub const ACCEPTED: u32 = 0;
@@ -27,12 +28,14 @@ impl Image {
         number(self.change(Book::end, Image::put_events))
     }
 
-    pub fn check(&self, [product, size, month, price]: [u32; 4]) -> u32 {
+    pub fn check(&self, order: [u32; 4]) -> u32 {
+        self.check_span(order).answer
+    }
+
+    /// A check with the ends of its span.
+    pub fn check_span(&self, [product, size, month, price]: [u32; 4]) -> SpanWords {
         let book = self.book().ok_or(Refusal::Unsound);
-        match book.and_then(|book| book.check(product, size, month, price)) {
-            Ok(verdict) => verdict as u32,
-            Err(refusal) => refusal.number(),
-        }
+        SpanWords::from(book.and_then(|book| book.check(product, size, month, price)))
     }
 
     /// A check counted in a tally; a refusal of the tally's own comes first and counts nothing.

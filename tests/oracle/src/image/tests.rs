@@ -32,8 +32,15 @@ fn assert_unsound(image: &Image, what: &str) {
     assert_eq!(after.open([2024, 6, 28, 0]), 1, "{what}");
     assert_eq!(after.sheet(9, &[], &[]), 1, "{what}");
     assert_eq!(after.end(), 1, "{what}");
-    assert_eq!(after.check([9, 9, 0, 0]), 1, "{what}");
+    assert_eq!(span(&after, [9, 9, 0, 0]), [1, 0, 0], "{what}");
     assert_eq!(after, *image, "{what}");
+}
+
+/// A check's number and its ends.
+fn span(image: &Image, order: [u32; 4]) -> [u32; 3] {
+    let words = image.check_span(order);
+    assert_eq!(image.check(order), words.answer);
+    [words.answer, words.lowest, words.highest]
 }
 
 #[test]
@@ -204,6 +211,22 @@ fn words_that_no_call_answers_are_no_answer() {
         damaged(|image| image.events[2].month = 5).last_events(),
         None
     );
+}
+
+#[test]
+fn a_check_has_the_ends_of_todays_limit() {
+    let image = damaged(|_| ());
+    assert_eq!(span(&image, [0, 0, JULY, 6_202]), [103, 5_800, 6_200]);
+    let expanded = damaged(|image| image.standings[0].expanded = 1);
+    assert_eq!(span(&expanded, [0, 0, JULY, 6_202]), [101, 5_680, 6_320]);
+    let low = damaged(|image| image.last[0].contracts[0].settlement = 100);
+    assert_eq!(span(&low, [0, 0, JULY, 302]), [103, 2, 300]);
+    assert_eq!(span(&low, [0, 1, JULY, 301]), [103, 1, 300]);
+    let high = damaged(|image| image.last[0].contracts[0].settlement = 999_900);
+    assert_eq!(span(&high, [0, 0, JULY, 2]), [102, 999_700, 1_000_000]);
+    assert_eq!(span(&image, [0, 0, JULY, 6_201]), [8, 0, 0]);
+    let spot = damaged(|image| image.left = 1);
+    assert_eq!(span(&spot, [0, 0, JULY, 6_202]), [100, 0, 0]);
 }
 
 #[test]

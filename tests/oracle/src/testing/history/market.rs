@@ -4,7 +4,7 @@ use super::listing::{self, Custom};
 use crate::book::{Book, Level, Limits, GROUPS};
 use crate::dates::is_spot;
 use crate::history::call::SheetCall;
-use crate::prices::LARGEST_PRICE;
+use crate::prices::{is_price, LARGEST_PRICE};
 use crate::products::PRODUCTS;
 use crate::testing::random::Random;
 
@@ -145,7 +145,8 @@ impl Market {
     ) -> u32 {
         let tick = PRODUCTS[line.product].standard_tick;
         let Some(last) = line.last else {
-            return new_settlement(random, self.customs[line.product].price, tick);
+            let limit = book.limit_today(line.product);
+            return new_settlement(random, self.customs[line.product].price, limit, tick);
         };
         if line.is_spot && random.one_in(4) {
             return tick * random.between(1, LARGEST_PRICE / tick);
@@ -222,13 +223,23 @@ fn moved(random: &mut Random, last: u32, size: u32, tick: u32) -> Option<u32> {
 }
 
 /// Near the product's price, now and then anywhere.
-fn new_settlement(random: &mut Random, price: u32, tick: u32) -> u32 {
+fn new_settlement(random: &mut Random, price: u32, limit: u32, tick: u32) -> u32 {
     if random.one_in(12) {
         let half = (price / 2 / tick).max(1);
-        return random.pick(&[tick, LARGEST_PRICE, tick * half]);
+        let edge = at_an_edge(random, limit, tick);
+        return random.pick(&[tick, LARGEST_PRICE, tick * half, edge]);
     }
     let highest = (price + price / 8 + 2 * tick).min(LARGEST_PRICE);
     tick * random.between((price / tick).max(1), highest / tick)
+}
+
+/// A settlement from which a limit reaches just to where prices begin or end; the first, where there is none.
+pub fn at_an_edge(random: &mut Random, limit: u32, tick: u32) -> u32 {
+    let from_top = LARGEST_PRICE.saturating_sub(limit);
+    match random.pick(&[limit, limit + tick, from_top]) {
+        edge if is_price(edge, tick) => edge,
+        _ => tick,
+    }
 }
 
 fn sheet(product: usize, lines: &[Line]) -> SheetCall {

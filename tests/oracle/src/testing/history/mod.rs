@@ -11,6 +11,7 @@ pub mod listing;
 pub mod market;
 pub mod pace;
 pub mod scenario;
+pub mod sent_again;
 pub mod side_by_side;
 pub mod stray;
 pub mod temper;

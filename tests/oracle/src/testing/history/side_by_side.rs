@@ -12,6 +12,9 @@ use crate::history::answer;
 use crate::history::call::{Call, SheetCall};
 use crate::testing::random::Random;
 
+/// So many that a season gives each group new limits in one of them.
+pub const PAIRS_A_GROUP: u64 = 28;
+
 const DAYS: usize = 60;
 
 /// One of the two histories.
@@ -270,7 +273,7 @@ mod tests {
     fn the_pairs_of_each_group_reach_events_and_seasons() {
         for group in 0..GROUP_COUNT {
             let mut seen = String::new();
-            for seed in 0..14 {
+            for seed in 0..PAIRS_A_GROUP {
                 let pair = pair(group, seed);
                 let answers = answers(&pair.sides[0].text);
                 let answers = lines(&answers);

@@ -1,10 +1,13 @@
 //! Calls beside the course of the day: checks, bare checks, false openings, lines that are no call.
 
+use super::market::at_an_edge;
+use crate::amounts::LARGEST_LIMIT;
 use crate::book::Book;
 use crate::history::call::Call;
 use crate::prices::LARGEST_PRICE;
-use crate::products::PRODUCTS;
+use crate::products::{Product, PRODUCTS};
 use crate::testing::random::Random;
+use crate::verdict::Span;
 
 /// Limits that found a book.
 pub fn fit_limits(random: &mut Random) -> [u32; 8] {
@@ -63,7 +66,7 @@ pub fn false_opening(random: &mut Random, book: &Book, next: [u32; 4]) -> Call {
     })
 }
 
-/// A check that mostly asks for a listed contract at the edges of its limit.
+/// A check that mostly asks for a listed contract at the ends of its span.
 pub fn check(random: &mut Random, book: &Book) -> Call {
     let product = random.below(8);
     check_of(random, book, product)
@@ -96,18 +99,15 @@ fn price(random: &mut Random, book: &Book, product: usize, (size, month): (u32, 
     let limits = book.limits[product];
     let limit = random.pick(&[limits.initial, limits.expanded, book.limit_today(product)]);
     let any = tick * random.between(1, LARGEST_PRICE / tick);
-    let near = [
-        last,
-        last + limit,
-        last + limit + tick,
-        last.saturating_sub(limit),
-        last.saturating_sub(limit + tick),
-        any,
-    ];
-    match random.pick(&near) {
-        price if price == 0 || price > LARGEST_PRICE => any,
-        price => price,
-    }
+    let near = price_near(random, Span::around(last, limit, tick), tick);
+    random.pick(&[last, near, near, near, near, any])
+}
+
+/// At an end of a span, one tick beyond it, which may be no price, or anywhere inside.
+fn price_near(random: &mut Random, span: Span, tick: u32) -> u32 {
+    let Span { lowest, highest } = span;
+    let inside = tick * random.between(lowest / tick, highest / tick);
+    random.pick(&[lowest, lowest - tick, highest, highest + tick, inside])
 }
 
 /// A check with one or two faults.
@@ -130,12 +130,15 @@ pub fn false_check(random: &mut Random, book: &Book) -> Call {
 pub fn bare(random: &mut Random) -> Call {
     let product = random.below(8);
     let row = &PRODUCTS[product];
-    let settlement = 2 * random.between(1, LARGEST_PRICE / 2);
-    let amount = row.step * random.between(row.floor / row.step, 2_000);
+    let most = random.pick(&[2_000, 2_000, LARGEST_LIMIT / row.step]);
+    let amount = row.step * random.between(row.floor / row.step, most);
+    let settlement = bare_settlement(random, row, amount);
     let spot = random.pick(&[0, 0, 0, 1, 256, u32::MAX]);
-    let far = random.pick(&[0, amount, amount + 2, 2 * amount]);
-    let price = random.pick(&[settlement + far, settlement.saturating_sub(far)]);
     let size = u32::from(row.mini_tick.is_some() && random.one_in(2));
+    let tick = row.tick(size).unwrap_or(1);
+    let near = price_near(random, Span::around(settlement, amount, tick), tick);
+    let any = tick * random.between(1, LARGEST_PRICE / tick);
+    let price = random.pick(&[near, near, near, any]);
     let mut numbers = [product as u32, size, settlement, amount, spot, price];
     for _ in 0..random.pick(&[0, 0, 1, 2]) {
         match random.below(4) {
@@ -146,6 +149,15 @@ pub fn bare(random: &mut Random) -> Call {
         }
     }
     Call::Bare(numbers)
+}
+
+/// Anywhere, or where an end of the span lies near the first or the last price.
+fn bare_settlement(random: &mut Random, row: &Product, amount: u32) -> u32 {
+    let tick = row.standard_tick;
+    let any = tick * random.between(1, LARGEST_PRICE / tick);
+    let small = tick * random.between(1, row.floor / tick);
+    let edge = at_an_edge(random, amount, tick);
+    random.pick(&[any, any, any, small, LARGEST_PRICE - small, edge])
 }
 
 /// A product whose group is expanded, if there is one.

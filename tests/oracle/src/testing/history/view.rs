@@ -89,7 +89,8 @@ mod tests {
             part(Kind::Ended, 2, "ended a b c d e f").as_deref(),
             Some("c")
         );
-        assert_eq!(part(Kind::Check, 2, "within").as_deref(), Some("within"));
+        let check = "within:5800:6200";
+        assert_eq!(part(Kind::Check, 2, check).as_deref(), Some(check));
     }
 
     #[test]

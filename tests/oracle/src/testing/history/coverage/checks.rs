@@ -1,14 +1,15 @@
 //! What checks and bare checks reached.
 
+use super::spans::Limited;
 use super::{refusal, Coverage, Seen};
 use crate::amounts::{self, LARGEST_LIMIT};
 use crate::book::groups::group_of;
 use crate::book::{Book, Level};
-use crate::dates::Date;
+use crate::dates::{is_spot, Date};
 use crate::prices::is_price;
 use crate::products::product;
 
-const WANTED: [&str; 42] = [
+const WANTED: [&str; 41] = [
     "check: refused 2",
     "check: refused 5, no such product",
     "check: refused 5, size not offered",
@@ -32,12 +33,11 @@ const WANTED: [&str; 42] = [
     "check: within, initial level",
     "check: within, expanded level",
     "check: within by E but not by I",
-    "check: below",
-    "check: above",
-    "check: within at the low end",
-    "check: within at the high end",
-    "check: one tick below the low end",
-    "check: one tick above the high end",
+    "check: below, initial level",
+    "check: below, expanded level",
+    "check: above, initial level",
+    "check: above, expanded level",
+    "check: an end clamped, expanded level",
     "check: mini of product 0",
     "check: mini of product 1",
     "check: mini of product 4",
@@ -125,7 +125,7 @@ fn observe_price(coverage: &mut Coverage, numbers: &[u32; 4], book: &Book) {
     let [number, size, month, price] = *numbers;
     coverage.count("check: refused 8");
     let (date, left) = book.open_day().expect("the day is judged before");
-    let is_spot = crate::dates::is_spot(month, date, left);
+    let is_spot = is_spot(month, date, left);
     coverage.count_if(is_spot, "check: refused 8, although spot");
     let mini = product(number).and_then(|row| row.tick(1));
     let fits_mini = size == 0 && mini.is_some_and(|tick| is_price(price, tick));
@@ -133,6 +133,23 @@ fn observe_price(coverage: &mut Coverage, numbers: &[u32; 4], book: &Book) {
         fits_mini,
         "check: refused 8, a standard order on the mini's tick",
     );
+    if !is_spot {
+        limited(numbers, book).observe_refused(coverage);
+    }
+}
+
+/// The order of a check on a listed contract.
+fn limited(numbers: &[u32; 4], book: &Book) -> Limited {
+    let [number, size, month, price] = *numbers;
+    let settlement = book.last_settlement(number as usize, month);
+    Limited {
+        call: "check",
+        is_mini: size == 1,
+        tick: product(number).and_then(|row| row.tick(size)).unwrap_or(1),
+        settlement: settlement.expect("the month is judged before"),
+        limit: book.limit_today(number as usize),
+        price,
+    }
 }
 
 fn observe_verdict(coverage: &mut Coverage, numbers: &[u32; 4], seen: &Seen) {
@@ -160,54 +177,59 @@ fn observe_verdict(coverage: &mut Coverage, numbers: &[u32; 4], seen: &Seen) {
 }
 
 fn observe_limited(coverage: &mut Coverage, numbers: &[u32; 4], seen: &Seen) {
-    let [number, size, month, price] = *numbers;
+    let number = numbers[0] as usize;
     let book = seen.before;
-    let limit = book.limit_today(number as usize);
-    let last = book.last_settlement(number as usize, month);
-    let last = last.expect("the check was answered");
-    let tick = product(number).and_then(|row| row.tick(size)).unwrap_or(1);
-    let is_expanded = book.standings[group_of(number as usize)].level == Level::Expanded;
-    let distance = price.abs_diff(last);
-    coverage.count_if(limit == LARGEST_LIMIT, "check: at the largest limit");
-    coverage.count(match (seen.answer, is_expanded) {
-        ("within", false) => "check: within, initial level".to_string(),
-        ("within", true) => "check: within, expanded level".to_string(),
-        (answer, _) => format!("check: {answer}"),
-    });
-    let past_initial = distance > book.limits[number as usize].initial;
+    let order = limited(numbers, book);
+    let verdict = kind(seen.answer);
+    order.observe(coverage, verdict);
+    let level = match book.standings[group_of(number)].level {
+        Level::Initial => "initial level",
+        Level::Expanded => "expanded level",
+    };
+    coverage.count(format!("check: {verdict}, {level}"));
+    if order.is_low_clamped() || order.is_high_clamped() {
+        coverage.count(format!("check: an end clamped, {level}"));
+    }
+    coverage.count_if(order.limit == LARGEST_LIMIT, "check: at the largest limit");
+    let distance = order.price.abs_diff(order.settlement);
     coverage.count_if(
-        past_initial && distance <= limit,
+        distance > book.limits[number].initial && distance <= order.limit,
         "check: within by E but not by I",
-    );
-    coverage.count_if(price + limit == last, "check: within at the low end");
-    coverage.count_if(price == last + limit, "check: within at the high end");
-    coverage.count_if(
-        price + limit + tick == last,
-        "check: one tick below the low end",
-    );
-    coverage.count_if(
-        price == last + limit + tick,
-        "check: one tick above the high end",
     );
 }
 
+/// The word of a verdict, without its span.
+fn kind(answer: &str) -> &str {
+    answer.split(':').next().unwrap_or(answer)
+}
+
 pub fn observe_bare(coverage: &mut Coverage, numbers: &[u32; 6], answer: &str) {
-    let [number, size, settlement, amount, _, price] = *numbers;
+    let [number, size, settlement, amount, spot, price] = *numbers;
     let row = product(number);
-    let tick = row.and_then(|row| row.tick(size));
-    let standard = row.map_or(1, |row| row.standard_tick);
-    let is_price_false = !is_price(settlement, standard) || !is_price(price, tick.unwrap_or(1));
+    let tick = row.and_then(|row| row.tick(size)).unwrap_or(1);
+    let is_settlement = is_price(settlement, row.map_or(1, |row| row.standard_tick));
+    let is_price_false = !is_settlement || !is_price(price, tick);
     let is_unfit = match row {
         Some(row) => !amounts::fits(row, amount),
         None => amount == 0 || amount > LARGEST_LIMIT,
     };
-    coverage.count(format!("bare: {answer}"));
+    let limited = Limited {
+        call: "bare",
+        is_mini: size == 1,
+        tick,
+        settlement,
+        limit: amount,
+        price,
+    };
+    coverage.count(format!("bare: {}", kind(answer)));
     match refusal(answer) {
         Some(5) => {
             coverage.count_if(is_price_false, "bare: 5 over 8");
             coverage.count_if(is_unfit, "bare: 5 over 13");
         }
-        Some(8) => coverage.count_if(is_unfit, "bare: 8 over 13"),
+        Some(8) if is_unfit => coverage.count("bare: 8 over 13"),
+        Some(8) if is_settlement && spot == 0 => limited.observe_refused(coverage),
+        None if spot == 0 => limited.observe(coverage, kind(answer)),
         _ => {}
     }
 }

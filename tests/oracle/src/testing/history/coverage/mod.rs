@@ -4,6 +4,7 @@ mod checks;
 mod ends;
 mod openings;
 mod sheets;
+mod spans;
 
 use std::collections::BTreeMap;
 
@@ -137,5 +138,6 @@ pub fn wanted() -> Vec<String> {
         .chain(sheets::wanted())
         .chain(ends::wanted())
         .chain(checks::wanted())
+        .chain(spans::wanted())
         .collect()
 }
