@@ -1,13 +1,16 @@
-/* The proved bare check beside the second implementation, call by call. */
+/* The proved bare check and the ends of its span beside the second implementation, call by call. */
 #ifndef COMPARE_H
 #define COMPARE_H
 
 #include <stdint.h>
 
+#include "botskhela.h"
+
 #define PRODUCTS 8
 #define LARGEST_PRICE 1000000u
 #define LARGEST_AMOUNT 2000000u
 #define ANSWERS 7
+#define CLAMPS 4
 
 struct call {
     uint32_t product, size, settlement, amount, spot, price;
@@ -19,13 +22,18 @@ struct run {
     uint64_t calls;
     uint64_t differences;
     uint64_t reached[ANSWERS];
+    uint64_t clamped[CLAMPS]; /* by which ends of the span lie at the first or the last price */
 };
 
 /* Each product's step and floor, for calls at the edges. */
 extern const uint32_t STEPS[PRODUCTS];
 extern const uint32_t FLOORS[PRODUCTS];
 
-uint32_t proved_answer(const struct call *call);
+/* The answer, and the ends that the two calls beside it give. */
+botskhela_span proved_span(const struct call *call);
+int is_same_span(const botskhela_span *one, const botskhela_span *other);
+void print_span(const char *who, const botskhela_span *span);
+
 void compare(struct run *run, const struct call *call);
 
 void compare_grid(struct run *run);

@@ -49,6 +49,25 @@ static void compare_prices(struct run *run, struct call call)
         }
 }
 
+static void compare_settlements(struct run *run, struct call call)
+{
+    for (unsigned i = 0; i < LENGTH(SETTLEMENTS); i++) {
+        call.settlement = SETTLEMENTS[i];
+        compare_prices(run, call);
+    }
+}
+
+/* Settlements from which the amount reaches just to the first or the last price, and no further or a little. */
+static void compare_edges(struct run *run, struct call call)
+{
+    for (uint32_t beyond = 0; beyond < 3; beyond++) {
+        call.settlement = call.amount + beyond;
+        compare_prices(run, call);
+        call.settlement = LARGEST_PRICE - call.amount + beyond;
+        compare_prices(run, call);
+    }
+}
+
 static void compare_amounts(struct run *run, struct call call)
 {
     /* A number without a product borrows the amounts of Corn. */
@@ -65,7 +84,8 @@ static void compare_amounts(struct run *run, struct call call)
 
     for (unsigned i = 0; i < LENGTH(amounts); i++) {
         call.amount = amounts[i];
-        compare_prices(run, call);
+        compare_settlements(run, call);
+        compare_edges(run, call);
     }
 }
 
@@ -74,11 +94,9 @@ void compare_grid(struct run *run)
     struct call call = {0, 0, 0, 0, 0, 0};
 
     for (unsigned i = 0; i < LENGTH(NUMBERS); i++)
-        for (unsigned j = 0; j < LENGTH(SIZES); j++)
-            for (unsigned k = 0; k < LENGTH(SETTLEMENTS); k++) {
-                call.product = NUMBERS[i];
-                call.size = SIZES[j];
-                call.settlement = SETTLEMENTS[k];
-                compare_amounts(run, call);
-            }
+        for (unsigned j = 0; j < LENGTH(SIZES); j++) {
+            call.product = NUMBERS[i];
+            call.size = SIZES[j];
+            compare_amounts(run, call);
+        }
 }
