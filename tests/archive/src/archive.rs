@@ -4,11 +4,31 @@ use oracle::bare::Order;
 use oracle::history::call::{Call, SheetCall};
 use oracle::image::Image;
 use oracle::tally::Tally;
+use oracle::verdict::SpanWords;
 
 use crate::memory::Edge;
 
+/// The arguments of the bare check and of its ends.
+type Bare = unsafe extern "C" fn(u32, u32, u32, u32, u32, u32) -> u32;
+
 extern "C" {
     fn botskhela_bare_check(
+        product: u32,
+        size: u32,
+        settlement: u32,
+        amount: u32,
+        spot: u32,
+        price: u32,
+    ) -> u32;
+    fn botskhela_bare_lowest(
+        product: u32,
+        size: u32,
+        settlement: u32,
+        amount: u32,
+        spot: u32,
+        price: u32,
+    ) -> u32;
+    fn botskhela_bare_highest(
         product: u32,
         size: u32,
         settlement: u32,
@@ -38,6 +58,13 @@ extern "C" {
     ) -> u32;
     fn botskhela_end(book: *mut Image) -> u32;
     fn botskhela_check(book: *const Image, product: u32, size: u32, month: u32, price: u32) -> u32;
+    fn botskhela_check_span(
+        book: *const Image,
+        product: u32,
+        size: u32,
+        month: u32,
+        price: u32,
+    ) -> SpanWords;
     fn botskhela_tallied_book_check(
         tally: *mut Tally,
         book: *const Image,
@@ -65,10 +92,10 @@ impl Archive {
         }
     }
 
-    /// The number that a call on a book returns.
+    /// The number that a call returns which may change a book.
     ///
     /// # Panics
-    /// Where the call is one that asks no book for a number.
+    /// Where the call is one that never does.
     pub fn call(&mut self, book: &mut Image, call: &Call) -> u32 {
         match call {
             Call::Found(limits) => found(book, *limits),
@@ -78,8 +105,7 @@ impl Archive {
             }
             Call::Sheet(sheet) => self.sheet(book, sheet),
             Call::End => unsafe { botskhela_end(book) },
-            Call::Check(order) => check(book, *order),
-            Call::Bare(_) | Call::Book => panic!("{call:?} is no call on a book"),
+            Call::Check(_) | Call::Bare(_) | Call::Book => panic!("{call:?} changes no book"),
         }
     }
 
@@ -122,8 +148,14 @@ fn found(book: &mut Image, limits: [u32; 8]) -> u32 {
     }
 }
 
-pub fn check(book: &Image, [product, size, month, price]: [u32; 4]) -> u32 {
-    unsafe { botskhela_check(book, product, size, month, price) }
+/// A check, and the same with its span.
+pub fn checks(book: &Image, [product, size, month, price]: [u32; 4]) -> (u32, SpanWords) {
+    unsafe {
+        (
+            botskhela_check(book, product, size, month, price),
+            botskhela_check_span(book, product, size, month, price),
+        )
+    }
 }
 
 pub fn tallied_check(tally: &mut Tally, book: &Image, order: [u32; 4]) -> u32 {
@@ -131,7 +163,16 @@ pub fn tallied_check(tally: &mut Tally, book: &Image, order: [u32; 4]) -> u32 {
     unsafe { botskhela_tallied_book_check(tally, book, product, size, month, price) }
 }
 
-pub fn bare(order: &Order) -> u32 {
+/// The bare check, and what the two calls for its ends return.
+pub fn bare(order: &Order) -> SpanWords {
+    SpanWords {
+        answer: number(botskhela_bare_check, order),
+        lowest: number(botskhela_bare_lowest, order),
+        highest: number(botskhela_bare_highest, order),
+    }
+}
+
+fn number(call: Bare, order: &Order) -> u32 {
     let Order {
         product,
         size,
@@ -140,5 +181,6 @@ pub fn bare(order: &Order) -> u32 {
         spot,
         price,
     } = *order;
-    unsafe { botskhela_bare_check(product, size, settlement, amount, spot, price) }
+    // SAFETY: any six numbers may be asked.
+    unsafe { call(product, size, settlement, amount, spot, price) }
 }

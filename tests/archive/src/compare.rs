@@ -1,9 +1,12 @@
 //! One call on an image, by the archive and by the second implementation.
 
+use std::fmt::Debug;
+
 use oracle::history::call::Call;
 use oracle::image::calls::ACCEPTED;
 use oracle::image::{Image, WORDS};
 use oracle::tally::Tally;
+use oracle::verdict::SpanWords;
 
 use crate::archive::{self, Archive};
 use crate::fields::Field;
@@ -75,16 +78,15 @@ impl Comparer {
         (Compared { number, difference }, after)
     }
 
-    /// A check, on an image that cannot be written.
-    pub fn check(&mut self, image: &Image, order: [u32; 4]) -> Compared {
-        let number = image.check(order);
-        let returned = self
+    /// A check and the same with its span, on an image that cannot be written. Gives the span, too.
+    pub fn check(&mut self, image: &Image, order: [u32; 4]) -> (Compared, SpanWords) {
+        let expected = image.check_span(order);
+        let (returned, span) = self
             .place
-            .lend_sealed(image, |lent| archive::check(lent, order));
-        Compared {
-            number,
-            difference: differs(number, returned),
-        }
+            .lend_sealed(image, |lent| archive::checks(lent, order));
+        let number = expected.answer;
+        let difference = differs(number, returned).or(differs(expected, span));
+        (Compared { number, difference }, expected)
     }
 
     /// A check through a tally, which the second implementation leaves as it should be.
@@ -130,8 +132,9 @@ fn tally_in(words: &mut [u32]) -> &mut Tally {
     unsafe { &mut *words.as_mut_ptr().cast() }
 }
 
-fn differs(expected: u32, returned: u32) -> Option<String> {
-    (expected != returned).then(|| format!("{expected} expected, the archive returns {returned}"))
+fn differs<T: PartialEq + Debug>(expected: T, returned: T) -> Option<String> {
+    let message = || format!("{expected:?} expected, the archive returns {returned:?}");
+    (expected != returned).then(message)
 }
 
 /// The first word that is not as expected.

@@ -4,8 +4,10 @@ use oracle::book::Book;
 use oracle::history::call::Call;
 use oracle::image::calls::ACCEPTED;
 use oracle::image::{Image, BOOK_WORDS, WORDS};
+use oracle::prices::LARGEST_PRICE;
 use oracle::testing::random::Random;
 use oracle::testing::score::Score;
+use oracle::verdict::SpanWords;
 
 use crate::bases::{self, Base};
 use crate::compare::{Compared, Comparer};
@@ -13,7 +15,7 @@ use crate::draw;
 use crate::fields::{Field, PARTS};
 use crate::noise;
 use crate::odd;
-use crate::reached::{Reached, ANSWERS, OUTCOMES, UNSOUND};
+use crate::reached::{Reached, ANSWERS, ENDS, OUTCOMES, UNSOUND};
 use crate::values::wrong_values;
 
 const SEED: u64 = 20_241_101;
@@ -55,8 +57,9 @@ impl<'a> Run<'a> {
             self.change(image, &call, &name);
         }
         let order = draw::order(&mut self.random, book);
-        let checked = self.comparer.check(image, order);
+        let (checked, span) = self.comparer.check(image, order);
         let number = checked.number;
+        self.note_span(span);
         self.note("check", checked, || {
             format!("check {order:?} on {}", name())
         });
@@ -91,6 +94,17 @@ impl<'a> Run<'a> {
         }
     }
 
+    /// Whether an end of a check's span lies where prices begin or end.
+    fn note_span(&mut self, span: SpanWords) {
+        if span.highest == 0 {
+            return;
+        }
+        let is_first = u32::from(span.lowest <= 2);
+        let is_last = u32::from(span.highest == LARGEST_PRICE);
+        self.reached.count("low is first", is_first);
+        self.reached.count("high is last", is_last);
+    }
+
     fn note(&mut self, call: &'static str, compared: Compared, shown: impl Fn() -> String) {
         self.calls += 1;
         self.reached.count(call, compared.number);
@@ -114,7 +128,14 @@ impl<'a> Run<'a> {
             _ => times >= LEAST,
         });
         let outcomes = self.reached.judge(&OUTCOMES, |_, times| times >= LEAST);
-        score.one(&format!("{kind} reach every answer"), calls.or(outcomes));
+        // Damage seldom moves a settlement to where prices begin or end.
+        let ends = self
+            .reached
+            .judge(&ENDS, |_, times| can_be_unsound || times >= LEAST);
+        score.one(
+            &format!("{kind} reach every answer"),
+            calls.or(outcomes).or(ends),
+        );
     }
 }
 

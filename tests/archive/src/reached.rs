@@ -22,6 +22,9 @@ pub const CHECK: &[u32] = &[100, 101, 102, 103, UNSOUND, 2, 5, 14, 8];
 /// What accepted openings and ends put in: whether a product got new limits, and a group's event.
 pub const OUTCOMES: [Range; 2] = [("renewed", &[0, 1]), ("event", &[0, 1, 2, 3, 4])];
 
+/// Whether an end of a check's span is the first price of its tick, or the last price: 1 where it is.
+pub const ENDS: [Range; 2] = [("low is first", &[0, 1]), ("high is last", &[0, 1])];
+
 #[derive(Default)]
 pub struct Reached {
     counts: BTreeMap<(&'static str, u32), u64>,

@@ -1,6 +1,6 @@
 //! A history through the archive, call by call, its image in bytes between calls.
 
-use oracle::bare::{Order, Verdict};
+use oracle::bare::Order;
 use oracle::book::Book;
 use oracle::history::answer::{self, answer_line, FILED, FOUNDED, NOT_A_CALL, NO_BOOK};
 use oracle::history::call::{self, Call};
@@ -8,6 +8,7 @@ use oracle::history::show;
 use oracle::image::calls::ACCEPTED;
 use oracle::image::{Image, WORDS};
 use oracle::testing::history::compare::{lines, shown};
+use oracle::verdict::{Span, SpanWords, Verdict};
 
 use crate::archive::{self, Archive};
 use crate::compare::different_word;
@@ -17,6 +18,13 @@ use crate::reached::UNSOUND;
 
 /// How many words stand before and after a buffer's image, at most.
 const BESIDE: usize = 4;
+
+/// What a check returns where there is no book.
+const NO_BOOK_SPAN: SpanWords = SpanWords {
+    answer: UNSOUND,
+    lowest: 0,
+    highest: 0,
+};
 
 /// What a history came to.
 #[derive(Default)]
@@ -80,6 +88,7 @@ impl Through<'_> {
     fn answer(&mut self, call: &Call) -> String {
         match call {
             Call::Bare(numbers) => checked(archive::bare(&Order::from(*numbers))),
+            Call::Check(order) => self.check(*order),
             Call::Book if !self.is_founded => NO_BOOK.to_string(),
             Call::Book => match self.image().book() {
                 Some(book) => show::book(&book),
@@ -89,8 +98,18 @@ impl Through<'_> {
         }
     }
 
+    /// A check and the same with its span, which have to answer alike.
+    fn check(&mut self, order: [u32; 4]) -> String {
+        match self.lend(|_, image| archive::checks(image, order)) {
+            Ok((number, span)) if number != span.answer => format!("{number}, and then {span:?}"),
+            Ok((_, NO_BOOK_SPAN)) if !self.is_founded => NO_BOOK.to_string(),
+            Ok((_, span)) => checked(span),
+            Err(message) => message,
+        }
+    }
+
     fn answer_by_number(&mut self, call: &Call) -> String {
-        let number = match self.call(call) {
+        let number = match self.lend(|archive, image| archive.call(image, call)) {
             Ok(number) => number,
             Err(message) => return message,
         };
@@ -102,9 +121,8 @@ impl Through<'_> {
             };
         }
         self.is_founded |= is_founding && number == ACCEPTED;
-        match call {
-            Call::Check(_) => checked(number),
-            _ if number == ACCEPTED => self.accepted(call),
+        match number {
+            ACCEPTED => self.accepted(call),
             _ => answer::refused(number),
         }
     }
@@ -121,8 +139,8 @@ impl Through<'_> {
         line.unwrap_or_else(|| "accepted, but with words that are no answer".to_string())
     }
 
-    /// Reads the image into a new buffer, makes the call there, and writes the image out again.
-    fn call(&mut self, call: &Call) -> Result<u32, String> {
+    /// Reads the image into a new buffer, makes calls there, and writes the image out again.
+    fn lend<T>(&mut self, act: impl FnOnce(&mut Archive, &mut Image) -> T) -> Result<T, String> {
         self.turn += 1;
         let pattern = [0, 1, u32::MAX, 0xA5A5_A5A5, 24_294][self.turn % 5];
         let before = self.turn % BESIDE;
@@ -130,11 +148,11 @@ impl Through<'_> {
         let room = &mut buffer[before..before + WORDS];
         room.copy_from_slice(&words_of(&self.bytes));
         let image = image_in(room);
-        let number = self.archive.call(image, call);
+        let outcome = act(self.archive, image);
         self.bytes = bytes_of(image);
         let mut beside = buffer[..before].iter().chain(&buffer[before + WORDS..]);
         match beside.all(|&word| word == pattern) {
-            true => Ok(number),
+            true => Ok(outcome),
             false => Err("the archive wrote beside the image".to_string()),
         }
     }
@@ -148,19 +166,20 @@ fn different_book(book: &Book, held: &Image) -> Option<String> {
     different_word(&expected, &held.without_unused())
 }
 
-/// The line of a check's number.
-fn checked(number: u32) -> String {
-    let verdicts = [
-        Verdict::Free,
-        Verdict::Within,
-        Verdict::Below,
-        Verdict::Above,
-    ];
-    match verdicts
-        .into_iter()
-        .find(|&verdict| verdict as u32 == number)
-    {
-        Some(verdict) => answer::verdict(verdict),
-        None => answer::refused(number),
+/// The line of what a check returns; without a limit its ends have to be 0.
+fn checked(words: SpanWords) -> String {
+    let SpanWords {
+        answer,
+        lowest,
+        highest,
+    } = words;
+    let span = Span { lowest, highest };
+    match (answer, lowest, highest) {
+        (101, ..) => answer::verdict(Verdict::Within(span)),
+        (102, ..) => answer::verdict(Verdict::Below(span)),
+        (103, ..) => answer::verdict(Verdict::Above(span)),
+        (100, 0, 0) => answer::verdict(Verdict::Free),
+        (number, 0, 0) => answer::refused(number),
+        _ => format!("{words:?}"),
     }
 }
