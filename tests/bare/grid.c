@@ -57,7 +57,7 @@ static void compare_settlements(struct run *run, struct call call)
     }
 }
 
-/* Settlements from which the amount reaches just to the first or the last price, and no further or a little. */
+/* Settlements from which the amount reaches to about the first price, or the last. */
 static void compare_edges(struct run *run, struct call call)
 {
     for (uint32_t beyond = 0; beyond < 3; beyond++) {
