@@ -124,7 +124,7 @@ mod tests {
         assert_eq!(again.orders, 4);
     }
 
-    /// Every order of a drawn history that is sent again, with the answer that is due.
+    /// Of every span that a drawn history gives.
     #[test]
     fn an_end_is_within_and_nothing_beyond_it() {
         for seed in 0..14 {

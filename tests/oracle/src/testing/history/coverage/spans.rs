@@ -4,7 +4,7 @@ use super::Coverage;
 use crate::prices::LARGEST_PRICE;
 
 /// The calls that carry a span.
-pub const CALLS: [&str; 2] = ["check", "bare"];
+const CALLS: [&str; 2] = ["check", "bare"];
 
 const VERDICTS: [&str; 3] = ["within", "below", "above"];
 
