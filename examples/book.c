@@ -12,13 +12,12 @@
 #include <stdint.h>
 #include <stdio.h>
 
+#include "book_orders.h"
 #include "botskhela.h"
 #include "history.h"
 #include "lines.h"
 #include "orders.h"
 #include "words.h"
-
-#define ORDER_NUMBERS 4
 
 /* A struct of zeros holds no book: until a founding every call is refused. */
 struct gateway {
@@ -91,14 +90,14 @@ static int run_history(const char *path, botskhela_book *book)
     return is_read;
 }
 
-static int judge(void *context, const char *line, uint32_t *answer)
+static int judge(void *context, const char *line, botskhela_span *span)
 {
     struct gateway *gateway = context;
     uint32_t order[ORDER_NUMBERS];
 
     if (!read_numbers(line, order, ORDER_NUMBERS))
         return 0;
-    *answer = botskhela_tallied_book_check(&gateway->tally, &gateway->book, order[0], order[1], order[2], order[3]);
+    *span = judge_by_book(&gateway->tally, &gateway->book, order);
     return 1;
 }
 

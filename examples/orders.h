@@ -12,14 +12,23 @@
 
 #define LONGEST_ORDER 119
 
-/* Judges the order in a line; 0 where the line is none. */
-typedef int judge_function(void *gateway, const char *line, uint32_t *answer);
+/* Judges the order in a line, and gives the ends of the span where it is beyond the limit; 0 where the line is no order. */
+typedef int judge_function(void *gateway, const char *line, botskhela_span *span);
 
-static inline void print_decision(uint32_t answer)
+/* Only of such an order is it said what could have been sent. */
+static inline int is_beyond_limit(uint32_t answer)
 {
-    int is_accepted = answer == BOTSKHELA_FREE || answer == BOTSKHELA_WITHIN;
+    return answer == BOTSKHELA_BELOW || answer == BOTSKHELA_ABOVE;
+}
 
-    printf("%s %s\n", is_accepted ? "accept" : "reject", answer_name(answer));
+static inline void print_decision(const botskhela_span *span)
+{
+    int is_accepted = span->answer == BOTSKHELA_FREE || span->answer == BOTSKHELA_WITHIN;
+
+    printf("%s %s", is_accepted ? "accept" : "reject", answer_name(span->answer));
+    if (is_beyond_limit(span->answer))
+        printf(", %" PRIu32 " to %" PRIu32 " allowed", span->lowest, span->highest);
+    putchar('\n');
 }
 
 static inline void print_tally(const botskhela_tally *tally)
@@ -34,15 +43,15 @@ static inline void answer_orders(judge_function *judge, void *gateway)
 {
     char line[LONGEST_ORDER + 1];
     enum line outcome;
-    uint32_t answer;
+    botskhela_span span;
 
     while ((outcome = read_line(stdin, line, sizeof line)) != LINE_NONE) {
         if (is_passed_over(outcome, line))
             continue;
-        if (outcome == LINE_TOO_LONG || !judge(gateway, line, &answer))
+        if (outcome == LINE_TOO_LONG || !judge(gateway, line, &span))
             puts("reject not an order");
         else
-            print_decision(answer);
+            print_decision(&span);
     }
 }
 

@@ -12,12 +12,11 @@
 #include <stdio.h>
 #include <string.h>
 
+#include "../book_orders.h"
 #include "../lines.h"
 #include "../orders.h"
 #include "botskhela.h"
 #include "image_file.h"
-
-#define ORDER_NUMBERS 4
 
 struct gateway {
     const char *path;
@@ -48,7 +47,7 @@ static void take_book(struct gateway *gateway)
     forget_book(gateway);
 }
 
-static int judge(void *context, const char *line, uint32_t *answer)
+static int judge(void *context, const char *line, botskhela_span *span)
 {
     struct gateway *gateway = context;
     uint32_t order[ORDER_NUMBERS];
@@ -57,7 +56,7 @@ static int judge(void *context, const char *line, uint32_t *answer)
         return 0;
     if (gateway->file == NULL || !image_is_current(gateway->file, gateway->path))
         take_book(gateway);
-    *answer = botskhela_tallied_book_check(&gateway->tally, &gateway->book, order[0], order[1], order[2], order[3]);
+    *span = judge_by_book(&gateway->tally, &gateway->book, order);
     return 1;
 }
 

@@ -158,8 +158,7 @@ answers_in_turn() {
         s/^refused 2$/reject no day open, or one still open/
         s/^refused 14$/reject month not listed/
         s/^within:[0-9]*:[0-9]*$/accept within/
-        s/^below:[0-9]*:[0-9]*$/reject below limit/
-        s/^above:[0-9]*:[0-9]*$/reject above limit/' | uniq
+        s/^\(below\|above\):\([0-9]*\):\([0-9]*\)$/reject \1 limit, \2 to \3 allowed/' | uniq
 }
 
 # Whether every line of the second list stands in the first, in the same order.
