@@ -27,9 +27,13 @@ void file_sheet(botskhela_book &book, std::uint32_t product, const std::vector<s
 
 void judge(const botskhela_book &book, std::uint32_t month, std::uint32_t price)
 {
-    const std::uint32_t answer = botskhela_check(&book, BOTSKHELA_CORN, BOTSKHELA_STANDARD, month, price);
+    const botskhela_span span = botskhela_check_span(&book, BOTSKHELA_CORN, BOTSKHELA_STANDARD, month, price);
 
-    std::cout << price << (answer == BOTSKHELA_WITHIN ? " within" : " not within") << '\n';
+    if (span.answer == BOTSKHELA_BELOW || span.answer == BOTSKHELA_ABOVE)
+        std::cout << price << (span.answer == BOTSKHELA_BELOW ? " below, " : " above, ") << span.lowest << " to "
+                  << span.highest << " allowed\n";
+    else
+        std::cout << price << (span.answer == BOTSKHELA_WITHIN ? " within\n" : " free or refused\n");
 }
 
 } // namespace

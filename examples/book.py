@@ -45,19 +45,26 @@ class Book(Structure):
     ]
 
 
+class Span(Structure):
+    _fields_ = [("answer", u32), ("lowest", u32), ("highest", u32)]
+
+
 assert sizeof(Book) == 4 * 956
+assert sizeof(Span) == 4 * 3
 
 CORN = 0
 STANDARD = 0
 WITHIN = 101
+BELOW = 102
+ABOVE = 103
 
 library = CDLL("libbotskhela.so.1")
 
 
-def declared(name, *arguments):
+def declared(name, *arguments, result=u32):
     function = getattr(library, "botskhela_" + name)
     function.argtypes = arguments
-    function.restype = u32
+    function.restype = result
     return function
 
 
@@ -65,7 +72,7 @@ found = declared("found", POINTER(Book), *[u32] * 8)
 open_day = declared("open", POINTER(Book), *[u32] * 4)
 file_sheet = declared("sheet", POINTER(Book), u32, POINTER(u32), c_size_t, POINTER(u32), c_size_t)
 end_day = declared("end", POINTER(Book))
-check = declared("check", POINTER(Book), *[u32] * 4)
+check_span = declared("check_span", POINTER(Book), *[u32] * 4, result=Span)
 
 
 def must(refusal):
@@ -78,8 +85,12 @@ def numbers(values):
 
 
 def judge(book, month, price):
-    answer = check(byref(book), CORN, STANDARD, month, price)
-    print(price, "within" if answer == WITHIN else "not within")
+    span = check_span(byref(book), CORN, STANDARD, month, price)
+    if span.answer in (BELOW, ABOVE):
+        word = "below" if span.answer == BELOW else "above"
+        print(f"{price} {word}, {span.lowest} to {span.highest} allowed")
+    else:
+        print(price, "within" if span.answer == WITHIN else "free or refused")
 
 
 def main():

@@ -64,11 +64,22 @@ mod image {
 
 use image::Book;
 
+/// What a check answers, and the span of prices that it goes by.
+#[repr(C)]
+struct Span {
+    answer: u32,
+    lowest: u32,
+    highest: u32,
+}
+
 const _: () = assert!(size_of::<Book>() == 4 * 956);
+const _: () = assert!(size_of::<Span>() == 4 * 3);
 
 const CORN: u32 = 0;
 const STANDARD: u32 = 0;
 const WITHIN: u32 = 101;
+const BELOW: u32 = 102;
+const ABOVE: u32 = 103;
 
 extern "C" {
     fn botskhela_found(
@@ -92,7 +103,7 @@ extern "C" {
         n_settlements: usize,
     ) -> u32;
     fn botskhela_end(book: *mut Book) -> u32;
-    fn botskhela_check(book: *const Book, product: u32, size: u32, month: u32, price: u32) -> u32;
+    fn botskhela_check_span(book: *const Book, product: u32, size: u32, month: u32, price: u32) -> Span;
 }
 
 /// The number of a refusal.
@@ -131,8 +142,8 @@ impl Book {
         accepted(unsafe { botskhela_end(self) })
     }
 
-    fn is_within(&self, product: u32, size: u32, month: u32, price: u32) -> bool {
-        unsafe { botskhela_check(self, product, size, month, price) == WITHIN }
+    fn check(&self, product: u32, size: u32, month: u32, price: u32) -> Span {
+        unsafe { botskhela_check_span(self, product, size, month, price) }
     }
 }
 
@@ -147,8 +158,13 @@ fn main() -> Result<(), Refused> {
     book.end()?;
     book.open(2024, 6, 26, 2)?;
     for price in [3800, 3802] {
-        let is_within = book.is_within(CORN, STANDARD, july, price);
-        println!("{price} {}", if is_within { "within" } else { "not within" });
+        let Span { answer, lowest, highest } = book.check(CORN, STANDARD, july, price);
+        match answer {
+            WITHIN => println!("{price} within"),
+            BELOW => println!("{price} below, {lowest} to {highest} allowed"),
+            ABOVE => println!("{price} above, {lowest} to {highest} allowed"),
+            _ => println!("{price} free or refused"),
+        }
     }
     Ok(())
 }

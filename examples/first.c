@@ -21,9 +21,13 @@ static void must(uint32_t refusal)
 
 static void judge(const botskhela_book *book, uint32_t month, uint32_t price)
 {
-    uint32_t answer = botskhela_check(book, BOTSKHELA_CORN, BOTSKHELA_STANDARD, month, price);
+    botskhela_span span = botskhela_check_span(book, BOTSKHELA_CORN, BOTSKHELA_STANDARD, month, price);
 
-    printf("%" PRIu32 " %s\n", price, answer == BOTSKHELA_WITHIN ? "within" : "not within");
+    if (span.answer == BOTSKHELA_BELOW || span.answer == BOTSKHELA_ABOVE)
+        printf("%" PRIu32 " %s, %" PRIu32 " to %" PRIu32 " allowed\n", price,
+               span.answer == BOTSKHELA_BELOW ? "below" : "above", span.lowest, span.highest);
+    else
+        printf("%" PRIu32 " %s\n", price, span.answer == BOTSKHELA_WITHIN ? "within" : "free or refused");
 }
 
 int main(void)
