@@ -152,6 +152,16 @@ static uint32_t make_check(const struct library *library, botskhela_book *book, 
                           months[turn / PRODUCTS % CONTRACTS], price_of(turn));
 }
 
+static uint32_t make_check_span(const struct library *library, botskhela_book *book, uint32_t turn)
+{
+    const botskhela_span span =
+        botskhela_check_span(book, turn % PRODUCTS, BOTSKHELA_STANDARD,
+                             months[turn / PRODUCTS % CONTRACTS], price_of(turn));
+
+    (void)library;
+    return span.answer;
+}
+
 static uint32_t make_tallied(const struct library *library, botskhela_book *book, uint32_t turn)
 {
     return library->tallied_check(&tally, book, turn % PRODUCTS, BOTSKHELA_STANDARD,
@@ -184,6 +194,8 @@ static const struct step STEPS[] = {
     {"check", make_check, &opened, 0},
     {"tallied_book_check", make_tallied, &opened, 0},
 };
+/* The second implementation has no such call for C, so it is measured alone. */
+static const struct step CHECK_SPAN = {"check_span", make_check_span, &opened, 0};
 static const struct step COPY = {"a copy", make_nothing, &ended, 1};
 static const struct step NOTHING = {"nothing", make_nothing, &ended, 0};
 
@@ -281,6 +293,16 @@ static void report(const struct step *step, double copy_ns)
            stack_bytes(step, &ORACLE));
 }
 
+static void report_alone(const struct step *step)
+{
+    double proved[ROUNDS];
+
+    for (int round = 0; round < ROUNDS; round++)
+        proved[round] = nanoseconds(step, &PROVED);
+    printf("%-18s  %8.0f ns a call; stack %6zu bytes\n", step->name, median(proved),
+           stack_bytes(step, &PROVED));
+}
+
 int main(void)
 {
     double copies[ROUNDS];
@@ -302,5 +324,6 @@ int main(void)
     printf("a call that does nothing uses %zu bytes of stack\n", stack_bytes(&NOTHING, &PROVED));
     for (size_t i = 0; i < LENGTH(STEPS); i++)
         report(&STEPS[i], copy_ns);
+    report_alone(&CHECK_SPAN);
     return 0;
 }
