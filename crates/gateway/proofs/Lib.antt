@@ -3,6 +3,7 @@ pub mod Numbers
 pub mod Imaged
 pub mod TallyWords
 pub mod BareAnswers
+pub mod BareSpans
 pub mod BookAnswers
 pub mod Proved
 pub mod Ties

@@ -4,9 +4,12 @@ ghost use mathlib.Core.Path.{_≡_};
 ghost use Rattle.grain.specs.Bare.{bareAnswer, bareSpan};
 ghost use Rattle.checking.specs.Checks.{checkedAs};
 ghost use Rattle.gateway.specs.Calls.{withSpan, imageSpan};
+use crate::botskhela_bare_check;
 use checking::Checked;
+use grain::Span;
 use grain::verdict_number;
 use grain::verdict_span;
+use grain::verdicts::FREE;
 use image::WORDS;
 use image::book_in;
 
@@ -16,6 +19,20 @@ pub struct Spanned {
     pub answer: u32,
     pub lowest: u32,
     pub highest: u32,
+}
+
+// Two zeros where the bare check is free or refused, which have the lower numbers.
+// By the export, not by grain, as in the check through a tally.
+fn bare_span(product: u32, size: u32, settlement: u32, amount: u32, spot: u32, price: u32) -> Span
+    ensures { λ r. ⌜ r ≡ bareSpan (bareAnswer product size settlement amount spot price) ⌝ }
+{
+    if botskhela_bare_check(product, size, settlement, amount, spot, price) <= FREE {
+        return Span {
+            lowest: 0,
+            highest: 0,
+        };
+    }
+    Span::by(grain::tick(product, size), settlement, amount)
 }
 
 #[no_mangle]
@@ -29,7 +46,7 @@ pub extern "C" fn botskhela_bare_lowest(
 ) -> u32
     ensures { λ r. ⌜ r ≡ bareSpan (bareAnswer product size settlement amount spot price) .lowest ⌝ }
 {
-    let span = grain::bare_span(grain::bare_check(product, size, settlement, amount, spot, price));
+    let span = bare_span(product, size, settlement, amount, spot, price);
     span.lowest
 }
 
@@ -44,7 +61,7 @@ pub extern "C" fn botskhela_bare_highest(
 ) -> u32
     ensures { λ r. ⌜ r ≡ bareSpan (bareAnswer product size settlement amount spot price) .highest ⌝ }
 {
-    let span = grain::bare_span(grain::bare_check(product, size, settlement, amount, spot, price));
+    let span = bare_span(product, size, settlement, amount, spot, price);
     span.highest
 }
 

@@ -1,6 +1,6 @@
 // The bare check: a price against a settlement and an amount, with no book.
 ghost use mathlib.Core.Path.{_≡_};
-ghost use Rattle.grain.specs.Bare.{bareAnswer, verdictNumber, bareNumber, noSpan, verdictSpan, bareSpan};
+ghost use Rattle.grain.specs.Bare.{bareAnswer, verdictNumber, bareNumber, verdictSpan};
 use crate::amounts::is_fit_amount;
 use crate::check::Span;
 use crate::check::Verdict;
@@ -72,34 +72,17 @@ pub fn bare_number(answer: BareAnswer) -> u32
     }
 }
 
-// Two zeros are no prices.
-fn no_span() -> Span
-    ensures { λ r. ⌜ r ≡ noSpan ⌝ }
-{
-    Span {
-        lowest: 0,
-        highest: 0,
-    }
-}
-
 pub fn verdict_span(verdict: Verdict) -> Span
     ensures { λ r. ⌜ r ≡ verdictSpan verdict ⌝ }
 {
     match verdict {
-        Verdict::Free => no_span(),
+        // Two zeros are no prices.
+        Verdict::Free => Span {
+            lowest: 0,
+            highest: 0,
+        },
         Verdict::Within(span) => span,
         Verdict::Below(span) => span,
         Verdict::Above(span) => span,
-    }
-}
-
-pub fn bare_span(answer: BareAnswer) -> Span
-    ensures { λ r. ⌜ r ≡ bareSpan answer ⌝ }
-{
-    match answer {
-        BareAnswer::Is(verdict) => verdict_span(verdict),
-        BareAnswer::NoSuchProduct => no_span(),
-        BareAnswer::BadPrice => no_span(),
-        BareAnswer::UnfitAmount => no_span(),
     }
 }

@@ -1,7 +1,7 @@
 // A price against a settlement and a limit.
 ghost use mathlib.Core.Path.{_≡_};
 ghost use Prim.Native.Nat.{_+_, _-_, min, max};
-ghost use Rattle.grain.specs.Check.{verdict};
+ghost use Rattle.grain.specs.Check.{spanBy, verdict};
 
 // The prices that a limit allows, both ends included.
 pub struct Span {
@@ -40,16 +40,25 @@ fn highest(settlement: u32, limit: u32) -> u32
     high as u32
 }
 
+impl Span {
+    // Settlement minus limit, but not under the tick, to settlement plus limit, but not over 1,000,000.
+    pub fn by(tick: u32, settlement: u32, limit: u32) -> Span
+        ensures { λ r. ⌜ r ≡ spanBy tick settlement limit ⌝ }
+    {
+        Span {
+            lowest: lowest(tick, settlement, limit),
+            highest: highest(settlement, limit),
+        }
+    }
+}
+
 pub fn judge(spot: bool, tick: u32, settlement: u32, limit: u32, price: u32) -> Verdict
     ensures { λ r. ⌜ r ≡ verdict spot tick settlement limit price ⌝ }
 {
     if spot {
         return Verdict::Free;
     }
-    let span = Span {
-        lowest: lowest(tick, settlement, limit),
-        highest: highest(settlement, limit),
-    };
+    let span = Span::by(tick, settlement, limit);
     if (price as u64) + (limit as u64) < settlement as u64 {
         return Verdict::Below(span);
     }

@@ -17,7 +17,6 @@ pub use amounts::is_fit_founding;
 pub use bare::BareAnswer;
 pub use bare::bare_check;
 pub use bare::bare_number;
-pub use bare::bare_span;
 pub use bare::verdict_number;
 pub use bare::verdict_span;
 pub use check::Span;

@@ -1,18 +1,14 @@
 use borrow.Author.Needs.{needs}
-use mathlib.Core.Path.{_∙_, ap}
-use Rattle.grain.specs.Bare.{bareSpan}
+use mathlib.Core.Path.{ap}
 use Rattle.grain.specs.declared.check.Span.{Span}
 use Rattle.gateway.proofs.spans.botskhela_bare_highest.Statement.{statement}
 use Rattle.gateway.proofs.spans.botskhela_bare_highest.Tie as tie
-
-bare-check-requires : tie.Need-bare-check-requires
-bare-check-requires c κs = search needs
 
 bare-span-requires : tie.Need-bare-span-requires
 bare-span-requires c κs = search needs
 
 returns : tie.Need-returns
-returns c = ap (λ (s : Span). s .highest) (c .bare-span .ensures ∙ ap bareSpan (c .before .bare-check .ensures))
+returns c = ap (λ (s : Span). s .highest) (c .bare-span .ensures)
 
 pub botskhela-bare-highest-spec : {M : Type 1} → statement M
-botskhela-bare-highest-spec = tie.close (tie.spec bare-check-requires bare-span-requires returns)
+botskhela-bare-highest-spec = tie.close (tie.spec bare-span-requires returns)
