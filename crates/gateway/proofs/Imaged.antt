@@ -143,6 +143,9 @@ whole-images =
       seen = seen-is;
       contents = contents-are;
       compared = λ s cs vs z run. agrees.compared s cs (bookIn z) (contents-are s cs vs z run);
+      spanned =
+          λ s cs vs z run p size month price.
+          ap (λ (r : Record). withSpan (respond r (check p size month price) .answer)) (contents-are s cs vs z run);
       neverUnsound = never-unsound;
       oneLevel = λ s cs vs z run. agrees.one-level s cs (bookIn z) (contents-are s cs vs z run);
       coupled = λ s cs vs z run. agrees.coupled s cs (bookIn z) (contents-are s cs vs z run);

@@ -14,12 +14,12 @@ use Rattle.record.specs.State.{groupOf, groupAt}
 use Rattle.record.specs.Founding.{Start, founded}
 use Rattle.record.specs.Record.{Call, check, Answer, checked, answers}
 use Rattle.record.specs.History.{SameFor}
-use Rattle.record.specs.Theorems.{after, historyOf, OneLevel, BetweenLimits}
+use Rattle.record.specs.Theorems.{after, historyOf, checkAfter, OneLevel, BetweenLimits}
 use Rattle.book.specs.Book.{view}
 use Rattle.history.specs.Whole.{SameContents}
 use Rattle.image.specs.Image.{isImage, bookIn}
 use Rattle.image.specs.Answers.{renewedIn, eventsIn}
-use Rattle.gateway.specs.Calls.{answerNumber, renewedAfter, eventsAfter, answerTo, RespondsImage, imageCheck, imageSpan, noRenewed, noEvents, FoundsImage}
+use Rattle.gateway.specs.Calls.{answerNumber, renewedAfter, eventsAfter, answerTo, RespondsImage, imageCheck, withSpan, imageSpan, noRenewed, noEvents, FoundsImage}
 use Rattle.gateway.specs.declared.spans.Spanned.{Spanned}
 
 -- what a C program sees of a call: the number that it returns, and what then stands in renewed and events
@@ -69,6 +69,9 @@ pub record WholeImages : Type 0 where
   -- and the book in the image after the list is the Record, as a whole and part by part
   pub contents : (s : Start) (cs : List Call) (vs : List Seen) (z : List ℕ) → ImageRun s cs vs z → view (bookIn z) ≡ after s cs
   pub compared : (s : Start) (cs : List Call) (vs : List Seen) (z : List ℕ) → ImageRun s cs vs z → SameContents (bookIn z) (after s cs)
+  -- a further check returns the Record's answer with its span
+  pub spanned : (s : Start) (cs : List Call) (vs : List Seen) (z : List ℕ) → ImageRun s cs vs z
+      → (p size month price : ℕ) → imageSpan z p size month price ≡ withSpan (checkAfter s cs p size month price)
   -- no call of a list returns 1
   pub neverUnsound : (s : Start) (cs : List Call) (vs : List Seen) (z : List ℕ) → ImageRun s cs vs z
       → every (λ v. not (eqb (v .number) unsound)) vs ≡ true
