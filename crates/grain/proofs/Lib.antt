@@ -9,6 +9,7 @@ pub mod ProductCases
 pub mod MonthSets
 pub mod OnTick
 pub mod Outcomes
+pub mod PriceFacts
 pub mod Rounded
 pub mod Rounding
 pub mod Scans

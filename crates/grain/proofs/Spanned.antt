@@ -1,18 +1,18 @@
 -- The ends of a span are multiples of the size's tick, as settlements, limits and 1,000,000 are; the rest is sums.
 use Prim.Native.Nat.{ℕ, _+_, _-_, _%_, _<_, _≤_, min, max}
 use mathlib.Core.Path.{_≡_, refl}
-use mathlib.Core.Bool.{Bool, true, false, not, _&&_, _||_, cond}
+use mathlib.Core.Bool.{Bool, true, false, _&&_, _||_, cond}
 use native.Mathlib.Nat.{dvd-trans, dvd-add, dvd-sub, le-of-dvd, mod-eq-zero-of-dvd, dvd-of-mod-eq-zero, mod-self}
 use native.Mathlib.Omega.{arith}
 use lib.Dec.{leb, eqb}
 use lib.ListN.{getD}
-use borrow.Author.Tests.{leb-true, leb-false, le-leb, eqb-true, eqb-false, eq-eqb, ne-eqb, not-true}
+use borrow.Author.Tests.{leb-true, leb-false, eqb-true, eqb-false, ne-eqb, not-true}
 use Rattle.grain.specs.Products.{steps, standardTicks, miniTicks, stepOf, tickOf}
-use Rattle.grain.specs.Prices.{isOnTick}
 use Rattle.grain.specs.Check.{spanBy, verdict, isWithin}
 use Rattle.grain.specs.Spans.{EverySpan}
 use Rattle.grain.proofs.Tests.{&&-left, &&-right}
 use Rattle.grain.proofs.Below.{below}
+use Rattle.grain.proofs.PriceFacts.{Priced, priced, on-tick}
 use Rattle.grain.proofs.Fits.{fit-facts, one-of}
 use Rattle.grain.proofs.Judged.{is-within, is-below, is-above}
 
@@ -54,31 +54,6 @@ tick-divides p t n e =
       most = eqb-true _ _ (&&-right (a && b) c f₃);
       small = leb-true _ _ (&&-right (a && b && c) d f);
     }
-
--- what isOnTick says of a price, test by test
-record Priced (t x : ℕ) : Type 0 where
-  some : 1 ≤ x
-  most : x ≤ 1000000
-  multiple : x % t ≡ 0
-
-priced : (t x : ℕ) → isOnTick t x ≡ true → Priced t x
-unfolding isOnTick
-priced t x e =
-    let a = not (eqb t 0) in
-    let b = leb 1 x in
-    let c = leb x 1000000 in
-    let d = eqb (x % t) 0 in
-    let e₃ = &&-left (a && b && c) d e in
-    record {
-      some = leb-true _ _ (&&-right a b (&&-left (a && b) c e₃));
-      most = leb-true _ _ (&&-right (a && b) c e₃);
-      multiple = eqb-true _ _ (&&-right (a && b && c) d e);
-    }
-
-on-tick : (t x : ℕ) → (t ≡ 0 → ⊥) → Priced t x → isOnTick t x ≡ true
-unfolding isOnTick
-on-tick t x n f =
-    rw (ne-eqb t 0 n, le-leb 1 x (f .some), le-leb x 1000000 (f .most), eq-eqb (x % t) 0 (f .multiple))
 
 multiple-trans : (t a x : ℕ) → a % t ≡ 0 → x % a ≡ 0 → x % t ≡ 0
 multiple-trans t a x e f = mod-eq-zero-of-dvd t (dvd-trans t (dvd-of-mod-eq-zero t e) (dvd-of-mod-eq-zero a f))
