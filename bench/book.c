@@ -28,16 +28,18 @@ struct library {
                       size_t);
     uint32_t (*end)(botskhela_book *);
     uint32_t (*check)(const botskhela_book *, uint32_t, uint32_t, uint32_t, uint32_t);
+    botskhela_span (*check_span)(const botskhela_book *, uint32_t, uint32_t, uint32_t, uint32_t);
     uint32_t (*tallied_check)(botskhela_tally *, const botskhela_book *, uint32_t, uint32_t,
                               uint32_t, uint32_t);
 };
 
 static const struct library PROVED = {
-    botskhela_found, botskhela_open,  botskhela_sheet,
-    botskhela_end,   botskhela_check, botskhela_tallied_book_check,
+    botskhela_found, botskhela_open,       botskhela_sheet,              botskhela_end,
+    botskhela_check, botskhela_check_span, botskhela_tallied_book_check,
 };
 static const struct library ORACLE = {
-    oracle_found, oracle_open, oracle_sheet, oracle_end, oracle_check, oracle_tallied_book_check,
+    oracle_found, oracle_open,       oracle_sheet,              oracle_end,
+    oracle_check, oracle_check_span, oracle_tallied_book_check,
 };
 
 /* Every product trades these. */
@@ -49,6 +51,9 @@ static botskhela_book ended, opened, filed;
 static uint32_t months[CONTRACTS];
 static uint32_t settlements[PRODUCTS][CONTRACTS];
 static botskhela_tally tally;
+
+/* What the last check with its span answered. */
+static botskhela_span span;
 
 /* From March 2025 on, so that July 2025 is collected. */
 static void fill_arrays(void)
@@ -146,26 +151,28 @@ static uint32_t price_of(uint32_t turn)
     return settlement + 800 * (turn % 3) - 800;
 }
 
+static uint32_t month_of(uint32_t turn)
+{
+    return months[turn / PRODUCTS % CONTRACTS];
+}
+
 static uint32_t make_check(const struct library *library, botskhela_book *book, uint32_t turn)
 {
-    return library->check(book, turn % PRODUCTS, BOTSKHELA_STANDARD,
-                          months[turn / PRODUCTS % CONTRACTS], price_of(turn));
+    return library->check(book, turn % PRODUCTS, BOTSKHELA_STANDARD, month_of(turn),
+                          price_of(turn));
 }
 
 static uint32_t make_check_span(const struct library *library, botskhela_book *book, uint32_t turn)
 {
-    const botskhela_span span =
-        botskhela_check_span(book, turn % PRODUCTS, BOTSKHELA_STANDARD,
-                             months[turn / PRODUCTS % CONTRACTS], price_of(turn));
-
-    (void)library;
+    span = library->check_span(book, turn % PRODUCTS, BOTSKHELA_STANDARD, month_of(turn),
+                               price_of(turn));
     return span.answer;
 }
 
 static uint32_t make_tallied(const struct library *library, botskhela_book *book, uint32_t turn)
 {
     return library->tallied_check(&tally, book, turn % PRODUCTS, BOTSKHELA_STANDARD,
-                                  months[turn / PRODUCTS % CONTRACTS], price_of(turn));
+                                  month_of(turn), price_of(turn));
 }
 
 static uint32_t make_nothing(const struct library *library, botskhela_book *book, uint32_t turn)
@@ -192,10 +199,9 @@ static const struct step STEPS[] = {
     {"sheet", make_sheet, &opened, 1},
     {"end", make_end, &filed, 1},
     {"check", make_check, &opened, 0},
+    {"check_span", make_check_span, &opened, 0},
     {"tallied_book_check", make_tallied, &opened, 0},
 };
-/* The second implementation has no such call for C, so it is measured alone. */
-static const struct step CHECK_SPAN = {"check_span", make_check_span, &opened, 0};
 static const struct step COPY = {"a copy", make_nothing, &ended, 1};
 static const struct step NOTHING = {"nothing", make_nothing, &ended, 0};
 
@@ -237,19 +243,25 @@ static double median(double times[ROUNDS])
     return times[ROUNDS / 2];
 }
 
-/* Both accept every call, with the same answers; tests/archive compares what they leave in the book. */
+/* Both accept every call, with the same answers and spans; tests/archive compares what they leave in the book. */
 static int differ(const struct step *step)
 {
     for (uint32_t turn = 0; turn < CALLS; turn++) {
         botskhela_book proved = *step->book, oracle = *step->book;
         uint32_t p = step->make(&PROVED, &proved, turn);
+        botskhela_span proved_span = span;
         uint32_t q = step->make(&ORACLE, &oracle, turn);
 
-        if (p == q && (p == 0 || p >= BOTSKHELA_FREE))
-            continue;
-        printf("%s: the proved call answers %" PRIu32 ", the second implementation %" PRIu32 "\n",
-               step->name, p, q);
-        return 1;
+        if (p != q || (p != 0 && p < BOTSKHELA_FREE)) {
+            printf("%s: the proved call answers %" PRIu32 ", the second implementation %" PRIu32
+                   "\n",
+                   step->name, p, q);
+            return 1;
+        }
+        if (memcmp(&proved_span, &span, sizeof span) != 0) {
+            printf("%s: the spans of the two differ\n", step->name);
+            return 1;
+        }
     }
     return 0;
 }
@@ -293,16 +305,6 @@ static void report(const struct step *step, double copy_ns)
            stack_bytes(step, &ORACLE));
 }
 
-static void report_alone(const struct step *step)
-{
-    double proved[ROUNDS];
-
-    for (int round = 0; round < ROUNDS; round++)
-        proved[round] = nanoseconds(step, &PROVED);
-    printf("%-18s  %8.0f ns a call; stack %6zu bytes\n", step->name, median(proved),
-           stack_bytes(step, &PROVED));
-}
-
 int main(void)
 {
     double copies[ROUNDS];
@@ -324,6 +326,5 @@ int main(void)
     printf("a call that does nothing uses %zu bytes of stack\n", stack_bytes(&NOTHING, &PROVED));
     for (size_t i = 0; i < LENGTH(STEPS); i++)
         report(&STEPS[i], copy_ns);
-    report_alone(&CHECK_SPAN);
     return 0;
 }

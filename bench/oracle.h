@@ -14,6 +14,8 @@ uint32_t oracle_sheet(botskhela_book *book, uint32_t product, const uint32_t *mo
 uint32_t oracle_end(botskhela_book *book);
 uint32_t oracle_check(const botskhela_book *book, uint32_t product, uint32_t size, uint32_t month,
                       uint32_t price);
+botskhela_span oracle_check_span(const botskhela_book *book, uint32_t product, uint32_t size,
+                                 uint32_t month, uint32_t price);
 uint32_t oracle_tallied_book_check(botskhela_tally *tally, const botskhela_book *book,
                                    uint32_t product, uint32_t size, uint32_t month,
                                    uint32_t price);

@@ -4,6 +4,7 @@
 
 use super::Image;
 use crate::tally::Tally;
+use crate::verdict::SpanWords;
 
 /// # Safety
 /// As botskhela_found.
@@ -80,6 +81,19 @@ pub unsafe extern "C" fn oracle_check(
     price: u32,
 ) -> u32 {
     unsafe { (*book).check([product, size, month, price]) }
+}
+
+/// # Safety
+/// As botskhela_check_span.
+#[no_mangle]
+pub unsafe extern "C" fn oracle_check_span(
+    book: *const Image,
+    product: u32,
+    size: u32,
+    month: u32,
+    price: u32,
+) -> SpanWords {
+    unsafe { (*book).check_span([product, size, month, price]) }
 }
 
 /// # Safety
