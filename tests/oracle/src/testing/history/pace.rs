@@ -10,6 +10,8 @@ pub enum Pace {
     Uneven,
     /// So many days in a row, then on into another season.
     Seasons(usize),
+    /// So many days in a row, then on into the next season.
+    NextSeason(usize),
     /// Over the ends of months whose next month many products trade.
     MonthEnds,
     /// Years at a time, often to a day on which something changes.
@@ -21,8 +23,9 @@ pub fn next_day(random: &mut Random, pace: Pace, today: usize, ended: usize) -> 
     let next = match pace {
         Pace::Daily => today + 1,
         Pace::Uneven => today + random.pick(&[1, 1, 1, 1, 1, 2, 3, 3, 5, 20, 45]),
-        Pace::Seasons(stay) if ended % stay == stay - 1 => season_ahead(random, today),
-        Pace::Seasons(_) => today + 1,
+        Pace::Seasons(stay) if ended % stay == stay - 1 => any_season(random, today),
+        Pace::NextSeason(stay) if ended % stay == stay - 1 => season_ahead(random, today, 1),
+        Pace::Seasons(_) | Pace::NextSeason(_) => today + 1,
         Pace::MonthEnds => month_end(random, today),
         Pace::Leaps => leap(random, today),
     };
@@ -30,8 +33,13 @@ pub fn next_day(random: &mut Random, pace: Pace, today: usize, ended: usize) -> 
 }
 
 /// A day of the next season, mostly; of the one after it, or years ahead.
-fn season_ahead(random: &mut Random, today: usize) -> usize {
+fn any_season(random: &mut Random, today: usize) -> usize {
     let seasons = random.pick(&[1, 1, 1, 1, 1, 1, 2, 3, 20]);
+    season_ahead(random, today, seasons)
+}
+
+/// A day near the beginning of a later season.
+fn season_ahead(random: &mut Random, today: usize, seasons: u32) -> usize {
     let days = &calendar().days;
     let wanted = days[today].season() + seasons;
     let first = days[today..].iter().position(|day| day.season() >= wanted);

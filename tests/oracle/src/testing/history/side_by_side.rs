@@ -12,8 +12,11 @@ use crate::history::answer;
 use crate::history::call::{Call, SheetCall};
 use crate::testing::random::Random;
 
-/// So many that a season gives each group new limits in one of them.
-pub const PAIRS_A_GROUP: u64 = 28;
+/// Each temper twice.
+pub const PAIRS_A_GROUP: u64 = 2 * temper::TURNS;
+
+/// One pair in so many is led into a season that gives its group new limits, which few draws reach.
+const RENEWED: u64 = 4;
 
 const DAYS: usize = 60;
 
@@ -50,6 +53,9 @@ pub fn pair(group: usize, seed: u64) -> Pair {
     }
     if random.one_in(2) {
         second.temper.limits = first.temper.limits;
+    }
+    if seed.is_multiple_of(RENEWED) {
+        first.temper.renew(&mut random, GROUPS[group]);
     }
     sides.iter_mut().for_each(Side::found);
     let mut pair = Pair { group, sides };
@@ -258,7 +264,7 @@ mod tests {
     #[test]
     fn this_implementation_keeps_groups_apart() {
         for group in 0..GROUP_COUNT {
-            for seed in 0..7 {
+            for seed in 0..temper::TURNS {
                 let pair = pair(group, seed);
                 let outputs = pair.sides.each_ref().map(|side| answers(&side.text));
                 assert_ne!(outputs[0], outputs[1]);
@@ -269,31 +275,45 @@ mod tests {
         }
     }
 
+    /// In so many pairs of each group a thing is reached, so that no single draw decides whether it is.
+    const SEVERAL: usize = 3;
+
+    const WANTED: [(Kind, &str); 9] = [
+        (Kind::Ended, "quiet"),
+        (Kind::Ended, "triggered"),
+        (Kind::Ended, "held"),
+        (Kind::Ended, "reverted"),
+        (Kind::Ended, "raised"),
+        (Kind::Check, "free"),
+        (Kind::Check, "within"),
+        (Kind::Check, "below"),
+        (Kind::Check, "above"),
+    ];
+
+    /// The kinds of answers that the group got on the first side, without contracts and spans.
+    fn reached(pair: &Pair) -> Vec<(Kind, String)> {
+        let side = &pair.sides[0];
+        let answers = answers(&side.text);
+        let answers = lines(&answers);
+        let kind_of = |probe: &(usize, Kind)| {
+            let part = pair.part(&answers, probe);
+            let part = part.expect("nothing agreed is refused");
+            let word = part.split(':').next().unwrap_or_default();
+            (probe.1, word.to_string())
+        };
+        side.probes.iter().map(kind_of).collect()
+    }
+
     #[test]
-    fn the_pairs_of_each_group_reach_events_and_seasons() {
-        for group in 0..GROUP_COUNT {
-            let mut seen = String::new();
-            for seed in 0..PAIRS_A_GROUP {
-                let pair = pair(group, seed);
-                let answers = answers(&pair.sides[0].text);
-                let answers = lines(&answers);
-                for probe in &pair.sides[0].probes {
-                    let part = pair
-                        .part(&answers, probe)
-                        .expect("nothing agreed is refused");
-                    seen.push_str(&format!("{:?} {part}\n", probe.1));
-                }
-            }
-            for word in [
-                "triggered",
-                "held",
-                "reverted",
-                "raised",
-                "Opened 1",
-                "free",
-                "above",
-            ] {
-                assert!(seen.contains(word), "group {group}: {word}");
+    fn several_pairs_of_each_group_reach_each_event_verdict_and_season() {
+        for (group, products) in GROUPS.iter().enumerate() {
+            let pairs = (0..PAIRS_A_GROUP).map(|seed| reached(&pair(group, seed)));
+            let pairs: Vec<Vec<(Kind, String)>> = pairs.collect();
+            let all_renewed = vec!["1"; products.len()].join(" ");
+            for (kind, word) in WANTED.into_iter().chain([(Kind::Opened, &*all_renewed)]) {
+                let wanted = (kind, word.to_string());
+                let times = pairs.iter().filter(|pair| pair.contains(&wanted)).count();
+                assert!(times >= SEVERAL, "group {group}: {wanted:?} in {times}");
             }
         }
     }

@@ -21,10 +21,13 @@ pub struct Temper {
     pub has_strange_left: bool,
 }
 
+/// How many tempers take turns.
+pub const TURNS: u64 = 7;
+
 /// Tempers take turns, so that every run of seeds has all of them.
 pub fn draw(random: &mut Random, seed: u64) -> Temper {
     let mut temper = common(random);
-    match seed % 7 {
+    match seed % TURNS {
         0 | 1 => live_through_seasons(random, &mut temper),
         2 => go_wrong(random, &mut temper),
         3 => near_the_largest(random, &mut temper),
@@ -83,6 +86,25 @@ fn live_through_seasons(random: &mut Random, temper: &mut Temper) {
         if random.one_in(3) {
             custom.price = 1_000;
             temper.limits[product] = PRODUCTS[product].floor;
+        }
+    }
+}
+
+/// A year's contracts of any product, so that the collected one is among them, and a far one.
+const A_YEAR: usize = 9;
+
+/// One in so many is none.
+const NEVER: usize = usize::MAX;
+
+impl Temper {
+    /// Fills the windows of these products in one season, so that the next gives them new limits.
+    pub fn renew(&mut self, random: &mut Random, products: &[usize]) {
+        self.first_day = season_start(random);
+        self.pace = Pace::NextSeason(random.pick(&[46, 47, 52, 60]));
+        for &product in products {
+            let custom = &mut self.market.customs[product];
+            custom.contracts = custom.contracts.max(A_YEAR);
+            custom.leaves_out = NEVER;
         }
     }
 }
