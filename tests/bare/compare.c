@@ -14,8 +14,8 @@ const uint32_t FLOORS[PRODUCTS] = {160, 400, 200, 200, 240, 240, 160, 100};
 
 static const uint32_t ANSWER[ANSWERS] = {100, 101, 102, 103, 5, 8, 13};
 
-/* One is added where the low end is clamped, and two where the high end is. */
-static const char *const CLAMP[CLAMPS] = {"none", "low", "high", "both"};
+/* One is added where the lowest is clamped, and two where the highest is. */
+static const char *const CLAMP[CLAMPS] = {"neither", "lowest", "highest", "both"};
 
 botskhela_span proved_span(const struct call *call)
 {

@@ -22,7 +22,7 @@ struct run {
     uint64_t calls;
     uint64_t differences;
     uint64_t reached[ANSWERS];
-    uint64_t clamped[CLAMPS]; /* by which ends of the span lie at the first or the last price */
+    uint64_t clamped[CLAMPS]; /* by the ends of the span that are not the amount away */
 };
 
 /* Each product's step and floor, for calls at the edges. */

@@ -15,20 +15,20 @@ static const uint32_t SETTLEMENTS[] = {
 };
 
 /* Prices at the ends of the range, and how far others lie beyond the limit; -1 is inside. */
-static const uint32_t ENDS[] = {
+static const uint32_t RANGE_ENDS[] = {
     0, 1, 2, 3, 999998, 999999, 1000000, 1000001, 1000002, UINT32_MAX,
 };
 static const uint32_t BEYOND[] = {-2u, -1u, 0, 1, 2, 3};
 
-#define PRICES (LENGTH(ENDS) + 2 * LENGTH(BEYOND) + 1)
+#define PRICES (LENGTH(RANGE_ENDS) + 2 * LENGTH(BEYOND) + 1)
 
-/* Where an end of the limit lies below 0, the price wraps and is out of range. */
+/* Where the amount is larger than the settlement, a price wraps and is out of range. */
 static void fill_prices(uint32_t prices[PRICES], uint32_t settlement, uint32_t amount)
 {
     uint32_t *price = prices;
 
-    for (unsigned i = 0; i < LENGTH(ENDS); i++)
-        *price++ = ENDS[i];
+    for (unsigned i = 0; i < LENGTH(RANGE_ENDS); i++)
+        *price++ = RANGE_ENDS[i];
     for (unsigned i = 0; i < LENGTH(BEYOND); i++) {
         *price++ = settlement + amount + BEYOND[i];
         *price++ = settlement - amount - BEYOND[i];

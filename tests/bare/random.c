@@ -61,7 +61,7 @@ static uint32_t draw_amount(uint32_t product)
     return FLOORS[row] + STEPS[row] * below(one_in(8) ? steps + 2 : 30);
 }
 
-/* Mostly near one end of the limit, on either side of it. */
+/* Mostly about the amount away from the settlement. */
 static uint32_t draw_price(const struct call *call)
 {
     const uint32_t offset = below(9) - 4;

@@ -5,6 +5,7 @@ use oracle::history::call::Call;
 use oracle::image::calls::ACCEPTED;
 use oracle::image::{Image, BOOK_WORDS, WORDS};
 use oracle::prices::LARGEST_PRICE;
+use oracle::products::product;
 use oracle::testing::random::Random;
 use oracle::testing::score::Score;
 use oracle::verdict::SpanWords;
@@ -59,7 +60,7 @@ impl<'a> Run<'a> {
         let order = draw::order(&mut self.random, book);
         let (checked, span) = self.comparer.check(image, order);
         let number = checked.number;
-        self.note_span(span);
+        self.note_span(order, span);
         self.note("check", checked, || {
             format!("check {order:?} on {}", name())
         });
@@ -94,15 +95,16 @@ impl<'a> Run<'a> {
         }
     }
 
-    /// Whether an end of a check's span lies where prices begin or end.
-    fn note_span(&mut self, span: SpanWords) {
+    /// A free or refused check has no span.
+    fn note_span(&mut self, [number, size, ..]: [u32; 4], span: SpanWords) {
         if span.highest == 0 {
             return;
         }
-        let is_first = u32::from(span.lowest <= 2);
+        let tick = product(number).and_then(|row| row.tick(size));
+        let is_first = u32::from(Some(span.lowest) == tick);
         let is_last = u32::from(span.highest == LARGEST_PRICE);
-        self.reached.count("low is first", is_first);
-        self.reached.count("high is last", is_last);
+        self.reached.count("lowest is first", is_first);
+        self.reached.count("highest is last", is_last);
     }
 
     fn note(&mut self, call: &'static str, compared: Compared, shown: impl Fn() -> String) {

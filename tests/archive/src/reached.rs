@@ -22,8 +22,8 @@ pub const CHECK: &[u32] = &[100, 101, 102, 103, UNSOUND, 2, 5, 14, 8];
 /// What accepted openings and ends put in: whether a product got new limits, and a group's event.
 pub const OUTCOMES: [Range; 2] = [("renewed", &[0, 1]), ("event", &[0, 1, 2, 3, 4])];
 
-/// Whether an end of a check's span is the first price of its tick, or the last price: 1 where it is.
-pub const ENDS: [Range; 2] = [("low is first", &[0, 1]), ("high is last", &[0, 1])];
+/// Whether the ends of a check's span are the first price of the tick and the last price: 1 where they are.
+pub const ENDS: [Range; 2] = [("lowest is first", &[0, 1]), ("highest is last", &[0, 1])];
 
 #[derive(Default)]
 pub struct Reached {
@@ -48,7 +48,7 @@ impl Reached {
                 .map(|&number| (number, self.times(what, number)));
             let counts: Vec<(u32, u64)> = counts.collect();
             let shown: Vec<String> = counts.iter().map(shown).collect();
-            println!("    {what:13} {}", shown.join(", "));
+            println!("    {what:15} {}", shown.join(", "));
             let few = counts
                 .iter()
                 .filter(|(number, times)| !is_enough(*number, *times));

@@ -87,7 +87,7 @@ mod tests {
     }
 
     #[test]
-    fn the_ends_of_the_limit_are_within() {
+    fn the_ends_of_the_span_are_within() {
         assert_eq!(answer([CORN, 0, 6_000, 200, 0, 6_200]), 101);
         assert_eq!(answer([CORN, 0, 6_000, 200, 0, 5_800]), 101);
         assert_eq!(answer([CORN, 0, 6_000, 200, 0, 6_202]), 103);
@@ -95,7 +95,7 @@ mod tests {
     }
 
     #[test]
-    fn the_low_end_is_that_of_the_size() {
+    fn the_lowest_is_that_of_the_size() {
         let lowest = |numbers: [u32; 6]| {
             let span = check(&Order::from(numbers)).ok().and_then(Verdict::span);
             span.map(|span| span.lowest)

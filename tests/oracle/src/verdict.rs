@@ -103,7 +103,7 @@ mod tests {
     }
 
     #[test]
-    fn the_low_end_is_not_under_the_tick() {
+    fn the_lowest_is_not_under_the_tick() {
         assert_eq!(ends(202, 200, 2), (2, 402));
         assert_eq!(ends(200, 200, 2), (2, 400));
         assert_eq!(ends(200, 200, 1), (1, 400));
@@ -113,7 +113,7 @@ mod tests {
     }
 
     #[test]
-    fn the_high_end_is_not_over_the_largest_price() {
+    fn the_highest_is_not_over_the_largest_price() {
         assert_eq!(ends(999_800, 200, 2), (999_600, 1_000_000));
         assert_eq!(ends(999_802, 200, 2), (999_602, 1_000_000));
         assert_eq!(ends(1_000_000, 160, 1), (999_840, 1_000_000));

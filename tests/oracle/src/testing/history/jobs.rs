@@ -5,9 +5,9 @@ use std::{fs, io};
 
 use super::compare::{answered_lines, difference, lines};
 use super::coverage::Coverage;
-use super::sent_again::{sent_again, SentAgain};
+use super::sent_again::SentAgain;
 use super::side_by_side::PAIRS_A_GROUP;
-use super::{days, garbage, scenario, side_by_side};
+use super::{days, garbage, scenario, sent_again, side_by_side};
 use crate::book::GROUP_COUNT;
 use crate::history::replay::answers;
 use crate::testing::program::{Delivery, Program};
@@ -48,7 +48,7 @@ pub struct Outcome {
 }
 
 const HISTORIES: u64 = 350;
-const SENT_AGAIN: u64 = 70;
+const HISTORIES_SENT_AGAIN: u64 = 70;
 const PIECES: u64 = 10_000;
 const PIECES_A_JOB: u64 = 50;
 const CHECKS_A_DAY: usize = 2;
@@ -56,7 +56,7 @@ const CHECKS_A_DAY: usize = 2;
 const ALL_DAYS: &str = "all days";
 const EXAMPLE: &str = "example";
 const GENERATED: &str = "generated histories";
-const WITH_ENDS: &str = "histories with orders sent again at the ends of their spans";
+const SENT_AGAIN: &str = "histories with orders sent again at the ends of their spans";
 const SIDE_BY_SIDE: &str = "pairs of histories side by side";
 const GARBAGE: &str = "pieces of garbage";
 
@@ -64,20 +64,20 @@ const GARBAGE: &str = "pieces of garbage";
 pub const SINGLE: [&str; 2] = [ALL_DAYS, EXAMPLE];
 
 /// The parts that are one test over many histories.
-pub const DRAWN: [&str; 4] = [GENERATED, WITH_ENDS, SIDE_BY_SIDE, GARBAGE];
+pub const DRAWN: [&str; 4] = [GENERATED, SENT_AGAIN, SIDE_BY_SIDE, GARBAGE];
 
 /// All days, the examples, and all that is drawn.
 pub fn all(examples: Vec<PathBuf>) -> Vec<Job> {
     let examples = examples.into_iter().map(Job::Example);
     let generated = (0..HISTORIES).map(Job::Generated);
-    let with_ends = (0..SENT_AGAIN).map(Job::SentAgain);
+    let sent_again = (0..HISTORIES_SENT_AGAIN).map(Job::SentAgain);
     let garbage = (0..PIECES / PIECES_A_JOB).map(|job| Job::Garbage {
         first: job * PIECES_A_JOB,
         count: PIECES_A_JOB,
     });
     let pairs = (0..GROUP_COUNT)
         .flat_map(|group| (0..PAIRS_A_GROUP).map(move |seed| Job::SideBySide { group, seed }));
-    let drawn = generated.chain(with_ends).chain(pairs).chain(garbage);
+    let drawn = generated.chain(sent_again).chain(pairs).chain(garbage);
     [Job::AllDays]
         .into_iter()
         .chain(examples)
@@ -91,7 +91,7 @@ impl Job {
         match self {
             Job::AllDays => ALL_DAYS,
             Job::Generated(_) => GENERATED,
-            Job::SentAgain(_) => WITH_ENDS,
+            Job::SentAgain(_) => SENT_AGAIN,
             Job::Example(_) => EXAMPLE,
             Job::Garbage { .. } => GARBAGE,
             Job::SideBySide { .. } => SIDE_BY_SIDE,
@@ -115,7 +115,7 @@ impl Job {
             Job::Generated(seed) => vec![scenario::history(*seed).text],
             Job::SentAgain(seed) => {
                 let history = scenario::history(*seed).text;
-                vec![sent_again(&history, &answers(&history)).text]
+                vec![sent_again::sent_again(&history, &answers(&history)).text]
             }
             Job::Example(path) => vec![fs::read(path)?],
             Job::Garbage { first, count } => (*first..first + count).map(garbage::piece).collect(),
@@ -132,7 +132,7 @@ pub fn run(program: &mut Program, job: &Job) -> Outcome {
     match job {
         Job::AllDays => one(job, all_days(program)),
         Job::Generated(seed) => generated(program, job, *seed),
-        Job::SentAgain(seed) => one(job, with_ends(program, *seed)),
+        Job::SentAgain(seed) => one(job, sent_again(program, *seed)),
         Job::Example(path) => one(job, example(program, path)),
         Job::Garbage { first, count } => garbage_from(program, *first, *count),
         Job::SideBySide { group, seed } => one(job, side_by_side(program, *group, *seed)),
@@ -169,13 +169,13 @@ fn generated(program: &mut Program, job: &Job, seed: u64) -> Outcome {
 }
 
 /// The spans are the program's own, so that it is held to what it said.
-fn with_ends(program: &mut Program, seed: u64) -> Option<String> {
+fn sent_again(program: &mut Program, seed: u64) -> Option<String> {
     let history = scenario::history(seed).text;
     let answers = match program.output_of(&history, Delivery::Whole) {
         Ok(answers) => answers,
         Err(error) => return Some(error),
     };
-    match sent_again(&history, &answers) {
+    match sent_again::sent_again(&history, &answers) {
         SentAgain { orders: 0, .. } => Some("no check gave a span".to_string()),
         again => compare(program, &again.text, &again.expected),
     }

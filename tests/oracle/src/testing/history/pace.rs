@@ -63,7 +63,7 @@ fn leap(random: &mut Random, today: usize) -> usize {
     if random.one_in(2) {
         return today + 1;
     }
-    let from = today + 1 + random.below(random_span(today));
+    let from = today + 1 + random.below(longest_leap(today));
     let turn = random.pick(&[229, 415, 416, 430, 501, 1015, 1016, 1031, 1101, 1231]);
     let days = &calendar().days;
     let rest = days.get(from..).unwrap_or_default();
@@ -71,7 +71,7 @@ fn leap(random: &mut Random, today: usize) -> usize {
     later.map_or(from, |days| from + days)
 }
 
-fn random_span(today: usize) -> usize {
+fn longest_leap(today: usize) -> usize {
     let left = calendar().last() - today;
     (left / 30).clamp(1, 2_200)
 }

@@ -9,7 +9,7 @@ use crate::dates::{is_spot, Date};
 use crate::prices::is_price;
 use crate::products::product;
 
-const WANTED: [&str; 41] = [
+const WANTED: [&str; 40] = [
     "check: refused 2",
     "check: refused 5, no such product",
     "check: refused 5, size not offered",
@@ -41,7 +41,6 @@ const WANTED: [&str; 41] = [
     "check: mini of product 0",
     "check: mini of product 1",
     "check: mini of product 4",
-    "check: mini off the standard tick",
     "check: with the product's sheet in",
     "check: on a month of 2^31 or more",
     "check: at the largest limit",
@@ -153,7 +152,7 @@ fn limited(numbers: &[u32; 4], book: &Book) -> Limited {
 }
 
 fn observe_verdict(coverage: &mut Coverage, numbers: &[u32; 4], seen: &Seen) {
-    let [number, size, month, price] = *numbers;
+    let [number, size, month, _] = *numbers;
     let (date, left) = seen.before.open_day().expect("the check was answered");
     let is_next = month == date.contract_month() + 1;
     coverage.count_if(month >= 1 << 31, "check: on a month of 2^31 or more");
@@ -161,7 +160,6 @@ fn observe_verdict(coverage: &mut Coverage, numbers: &[u32; 4], seen: &Seen) {
     coverage.count_if(is_in, "check: with the product's sheet in");
     if size == 1 {
         coverage.count(format!("check: mini of product {number}"));
-        coverage.count_if(price % 2 == 1, "check: mini off the standard tick");
     }
     if seen.answer != "free" {
         coverage.count_if(
@@ -187,7 +185,8 @@ fn observe_limited(coverage: &mut Coverage, numbers: &[u32; 4], seen: &Seen) {
         Level::Expanded => "expanded level",
     };
     coverage.count(format!("check: {verdict}, {level}"));
-    if order.is_low_clamped() || order.is_high_clamped() {
+    let clamped = order.clamped();
+    if clamped.lowest || clamped.highest {
         coverage.count(format!("check: an end clamped, {level}"));
     }
     coverage.count_if(order.limit == LARGEST_LIMIT, "check: at the largest limit");

@@ -9,29 +9,27 @@ const CALLS: [&str; 2] = ["check", "bare"];
 const VERDICTS: [&str; 3] = ["within", "below", "above"];
 
 /// Of each call.
-const WANTED: [&str; 22] = [
-    "neither end clamped",
-    "low end clamped to a standard tick of 2",
-    "low end clamped to a standard tick of 1",
-    "low end clamped to a mini's tick of 1",
-    "high end clamped",
+const WANTED: [&str; 20] = [
+    "lowest clamped to a standard tick of 2",
+    "lowest clamped to a standard tick of 1",
+    "lowest clamped to a mini's tick of 1",
     "both ends clamped",
-    "low end clamped from 0",
-    "low end at the tick, not clamped",
-    "high end at the largest price, not clamped",
-    "within, low end clamped",
-    "above, low end clamped",
-    "within, high end clamped",
-    "below, high end clamped",
-    "within at the low end",
-    "within at the high end",
-    "within at a clamped low end",
-    "within at a clamped high end",
-    "one tick below the low end",
-    "one tick above the high end",
-    "refused 8, one tick below a clamped low end",
-    "refused 8, one tick above a clamped high end",
-    "within at a clamped low end of a mini",
+    "lowest clamped from 0",
+    "lowest at the tick, not clamped",
+    "highest at the largest price, not clamped",
+    "within, lowest clamped",
+    "above, lowest clamped",
+    "within, highest clamped",
+    "below, highest clamped",
+    "within at the lowest",
+    "within at the highest",
+    "within at a clamped lowest",
+    "within at a clamped lowest of a mini",
+    "within at a clamped highest",
+    "one tick below the lowest",
+    "one tick above the highest",
+    "refused 8, one tick below a clamped lowest",
+    "refused 8, one tick above a clamped highest",
 ];
 
 pub fn wanted() -> Vec<String> {
@@ -65,15 +63,18 @@ pub struct Limited {
     pub price: u32,
 }
 
-impl Limited {
-    /// That the settlement minus the limit lies under the tick.
-    pub fn is_low_clamped(&self) -> bool {
-        self.settlement < self.limit + self.tick
-    }
+/// Which ends of a span are not the limit away from the settlement.
+pub struct Clamped {
+    pub lowest: bool,
+    pub highest: bool,
+}
 
-    /// That the settlement plus the limit lies over the largest price.
-    pub fn is_high_clamped(&self) -> bool {
-        self.settlement + self.limit > LARGEST_PRICE
+impl Limited {
+    pub fn clamped(&self) -> Clamped {
+        Clamped {
+            lowest: self.settlement < self.limit + self.tick,
+            highest: self.settlement + self.limit > LARGEST_PRICE,
+        }
     }
 
     fn count(&self, coverage: &mut Coverage, facts: &[(bool, &str)]) {
@@ -91,26 +92,25 @@ impl Limited {
     }
 
     fn observe_clamps(&self, coverage: &mut Coverage, verdict: &str) {
-        let (low, high) = (self.is_low_clamped(), self.is_high_clamped());
-        let is_standard = |tick| low && !self.is_mini && self.tick == tick;
+        let Clamped { lowest, highest } = self.clamped();
+        let is_standard = |tick| lowest && !self.is_mini && self.tick == tick;
+        let is_mini = lowest && self.is_mini;
         let facts = [
-            (!low && !high, "neither end clamped"),
-            (!low && !high, &unclamped(verdict)),
-            (is_standard(2), "low end clamped to a standard tick of 2"),
-            (is_standard(1), "low end clamped to a standard tick of 1"),
-            (low && self.is_mini, "low end clamped to a mini's tick of 1"),
-            (low, &format!("{verdict}, low end clamped")),
-            (high, "high end clamped"),
-            (high, &format!("{verdict}, high end clamped")),
-            (low && high, "both ends clamped"),
-            (self.settlement == self.limit, "low end clamped from 0"),
+            (!lowest && !highest, &*unclamped(verdict)),
+            (is_standard(2), "lowest clamped to a standard tick of 2"),
+            (is_standard(1), "lowest clamped to a standard tick of 1"),
+            (is_mini, "lowest clamped to a mini's tick of 1"),
+            (lowest, &format!("{verdict}, lowest clamped")),
+            (highest, &format!("{verdict}, highest clamped")),
+            (lowest && highest, "both ends clamped"),
+            (self.settlement == self.limit, "lowest clamped from 0"),
             (
                 self.settlement == self.limit + self.tick,
-                "low end at the tick, not clamped",
+                "lowest at the tick, not clamped",
             ),
             (
                 self.settlement + self.limit == LARGEST_PRICE,
-                "high end at the largest price, not clamped",
+                "highest at the largest price, not clamped",
             ),
         ];
         self.count(coverage, &facts);
@@ -124,44 +124,34 @@ impl Limited {
             price,
             ..
         } = *self;
-        let (low, high) = (self.is_low_clamped(), self.is_high_clamped());
-        let at_tick = low && price == tick;
+        let clamped = self.clamped();
+        let at_tick = clamped.lowest && price == tick;
+        let at_largest = clamped.highest && price == LARGEST_PRICE;
+        let one_below = price + limit + tick == settlement;
+        let one_above = price == settlement + limit + tick;
         let facts = [
-            (price + limit == settlement, "within at the low end"),
-            (price == settlement + limit, "within at the high end"),
-            (at_tick, "within at a clamped low end"),
+            (price + limit == settlement, "within at the lowest"),
+            (price == settlement + limit, "within at the highest"),
+            (at_tick, "within at a clamped lowest"),
             (
                 at_tick && self.is_mini,
-                "within at a clamped low end of a mini",
+                "within at a clamped lowest of a mini",
             ),
-            (
-                high && price == LARGEST_PRICE,
-                "within at a clamped high end",
-            ),
-            (
-                price + limit + tick == settlement,
-                "one tick below the low end",
-            ),
-            (
-                price == settlement + limit + tick,
-                "one tick above the high end",
-            ),
+            (at_largest, "within at a clamped highest"),
+            (one_below, "one tick below the lowest"),
+            (one_above, "one tick above the highest"),
         ];
         self.count(coverage, &facts);
     }
 
     /// Takes note of an order that was refused for its price alone.
     pub fn observe_refused(&self, coverage: &mut Coverage) {
-        let (low, high) = (self.is_low_clamped(), self.is_high_clamped());
+        let clamped = self.clamped();
+        let is_below = clamped.lowest && self.price == 0;
+        let is_above = clamped.highest && self.price == LARGEST_PRICE + self.tick;
         let facts = [
-            (
-                low && self.price == 0,
-                "refused 8, one tick below a clamped low end",
-            ),
-            (
-                high && self.price == LARGEST_PRICE + self.tick,
-                "refused 8, one tick above a clamped high end",
-            ),
+            (is_below, "refused 8, one tick below a clamped lowest"),
+            (is_above, "refused 8, one tick above a clamped highest"),
         ];
         self.count(coverage, &facts);
     }
