@@ -1,11 +1,12 @@
 //! Sheets whose two arrays overlap, and sheets of more contracts than 32 bits can count.
 
 use oracle::book::PRODUCT_COUNT;
+use oracle::image::calls::ACCEPTED;
 use oracle::products::PRODUCTS;
 use oracle::testing::score::Score;
 
 use crate::bases::Base;
-use crate::compare::{Compared, Comparer};
+use crate::compare::Comparer;
 use crate::memory::many;
 use crate::reached::Reached;
 
@@ -14,8 +15,8 @@ const MANY: usize = (1 << 32) + 1;
 
 const LONGEST: usize = 17;
 
-const ACCEPTED: u32 = 0;
 const MISSHAPEN: u32 = 6;
+const BAD_PRICE: u32 = 8;
 
 pub fn compare(comparer: &mut Comparer, bases: &[Base], score: &mut Score) {
     overlapping(comparer, bases, score);
@@ -56,7 +57,7 @@ fn overlapping(comparer: &mut Comparer, bases: &[Base], score: &mut Score) {
         }
     }
     score.all("sheets of overlapping arrays", &failures);
-    let wanted = [("sheet", [ACCEPTED, MISSHAPEN, 8].as_slice())];
+    let wanted = [("sheet", [ACCEPTED, MISSHAPEN, BAD_PRICE].as_slice())];
     let rare = reached.judge(&wanted, |_, times| times > 10);
     score.one("overlapping arrays are accepted and refused", rare);
 }
@@ -72,7 +73,7 @@ fn too_many(comparer: &mut Comparer, bases: &[Base], score: &mut Score) {
     let pairs = [(MANY, MANY), (MANY, 1), (1, MANY), (MANY - 1, MANY - 1)];
     let failures = pairs.map(|(n_months, n_settlements)| {
         let (months, settlements) = (&numbers[..n_months], &numbers[..n_settlements]);
-        let compared: Compared = comparer.sheet(&base.image, 2, months, settlements);
+        let compared = comparer.sheet(&base.image, 2, months, settlements);
         let is_misshapen = compared.number == MISSHAPEN;
         compared
             .difference

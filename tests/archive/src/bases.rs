@@ -7,7 +7,6 @@ use oracle::book::end::Event;
 use oracle::book::sheet::LARGEST_SHEET;
 use oracle::book::window::LARGEST_WINDOW;
 use oracle::book::{Book, Level, Sheet, GROUP_COUNT};
-use oracle::history::call::SheetCall;
 use oracle::image::{EventWords, Image};
 use oracle::testing::history::calendar::calendar;
 use oracle::testing::history::listing::Custom;
@@ -132,9 +131,7 @@ fn opened(book: &Book, day: usize) -> Book {
 /// The open day with so many sheets in.
 fn filed(random: &mut Random, book: &Book, count: usize) -> Book {
     let mut book = book.clone();
-    let market = market();
-    let drafts = (0..GROUP_COUNT).flat_map(|group| market.draft(random, &book, group));
-    let drafts: Vec<SheetCall> = drafts.collect();
+    let drafts = market().draft_all(random, &book);
     for sheet in drafts.iter().take(count) {
         let filing = book.file(sheet.product, &sheet.months, &sheet.settlements);
         filing.expect("a drafted sheet is accepted");

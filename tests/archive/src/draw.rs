@@ -54,7 +54,7 @@ fn next_day(random: &mut Random, book: &Book) -> [u32; 4] {
 fn sheet(random: &mut Random, book: &Book) -> Call {
     let product = random.below(PRODUCT_COUNT);
     if !book.is_open {
-        return Call::Sheet(again(random, book, product));
+        return Call::Sheet(stray::last_sheet(random, book, product));
     }
     let mut products = (0..PRODUCT_COUNT).map(|step| (product + step) % PRODUCT_COUNT);
     let missing = products.find(|&other| book.sheets_in[other].is_none());
@@ -78,26 +78,11 @@ fn good_sheet(random: &mut Random, book: &Book, product: usize) -> SheetCall {
     own.next().expect("a group has a sheet for each product")
 }
 
-/// At times for no product.
-fn again(random: &mut Random, book: &Book, product: usize) -> SheetCall {
-    let last = book.last_ended[product].clone().unwrap_or_default();
-    let product = product as u32;
-    SheetCall {
-        product: random.pick(&[product, product, 8]),
-        months: last.iter().map(|entry| entry.month).collect(),
-        settlements: last.iter().map(|entry| entry.settlement).collect(),
-    }
-}
-
 /// Product, size, month and price, one time in three with a fault or two.
 pub fn order(random: &mut Random, book: &Book) -> [u32; 4] {
-    let call = match random.one_in(3) {
-        true => stray::false_check(random, book),
-        false => stray::check(random, book),
-    };
-    match call {
-        Call::Check(order) => order,
-        other => panic!("{other:?} is no check"),
+    match random.one_in(3) {
+        true => stray::false_order(random, book),
+        false => stray::order(random, book),
     }
 }
 

@@ -1,7 +1,6 @@
 //! A gateway's tally of the checks through it.
 
-use crate::bare;
-use crate::bare::Order;
+use crate::bare::{self, Order};
 
 const UNSOUND: u32 = 1;
 const FULL: u32 = 15;

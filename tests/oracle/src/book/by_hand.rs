@@ -37,6 +37,15 @@ pub struct Trial {
     pub settlements: Vec<Vec<u32>>,
 }
 
+/// A book on its second day, with two sheets in.
+pub fn open_book() -> Book {
+    let mut trial = Trial::new(LIMITS);
+    trial.open();
+    trial.file(0);
+    trial.file(7);
+    trial.book
+}
+
 /// The first contracts of a product from a month on.
 pub fn contracts(product: usize, from: u32, count: usize) -> Vec<u32> {
     let traded = (from..).filter(|&month| PRODUCTS[product].trades(month));

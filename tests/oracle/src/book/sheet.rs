@@ -3,7 +3,7 @@
 use super::{Book, Entry, Sheet};
 use crate::dates::{is_spot, Date};
 use crate::prices;
-use crate::products::{Product, PRODUCTS};
+use crate::products::{self, Product, PRODUCTS};
 use crate::refusal::Refusal;
 
 pub const LARGEST_SHEET: usize = 16;
@@ -20,7 +20,7 @@ impl Book {
             return Err(Refusal::Unsound);
         }
         let (date, left) = self.open_day()?;
-        let row = crate::products::product(product).ok_or(Refusal::Product)?;
+        let row = products::product(product).ok_or(Refusal::Product)?;
         let product = product as usize;
         if self.sheets_in[product].is_some() {
             return Err(Refusal::AlreadyIn);

@@ -1,18 +1,9 @@
 //! Damage to each field, found by every call; and books that look odd but are sound.
 
-use super::by_hand::{contracts, Trial, JULY, LIMITS};
+use super::by_hand::{contracts, open_book, JULY, LIMITS};
 use super::sheet::entries;
 use super::{Book, Entry, Level, Limits, Standing};
 use crate::refusal::Refusal;
-
-/// On its second day, with two sheets in.
-fn open_book() -> Book {
-    let mut trial = Trial::new(LIMITS);
-    trial.open();
-    trial.file(0);
-    trial.file(7);
-    trial.book
-}
 
 type Damage = (&'static str, fn(&mut Book));
 

@@ -3,18 +3,9 @@
 use std::mem::offset_of;
 
 use super::*;
-use crate::book::by_hand::{Trial, JULY, LIMITS};
+use crate::book::by_hand::{open_book, Trial, JULY, LIMITS};
 use crate::book::{Book, Level, Standing};
 use crate::tally::Tally;
-
-/// On its second day, with two sheets in.
-fn open_book() -> Book {
-    let mut trial = Trial::new(LIMITS);
-    trial.open();
-    trial.file(0);
-    trial.file(7);
-    trial.book
-}
 
 /// Words that no call may write, since no call answers them.
 const KEPT: [u32; 8] = [7, 0, 1, 2, 3, 4, 5, u32::MAX];

@@ -4,13 +4,13 @@ use super::calendar::calendar;
 use super::listing::Custom;
 use super::market::Market;
 use super::text;
-use crate::book::{Book, GROUP_COUNT};
+use crate::book::Book;
 use crate::dates::Date;
 use crate::history::answer;
-use crate::history::call::{Call, SheetCall};
-use crate::prices::LARGEST_PRICE;
+use crate::history::call::Call;
 use crate::products::PRODUCTS;
 use crate::testing::random::Random;
+use crate::verdict::Span;
 
 const SEED: u64 = 20_000_101;
 
@@ -76,12 +76,8 @@ impl Course {
 
     fn day(&mut self, date: Date, left: u32, checks: usize) {
         self.call(Call::Open([date.year(), date.month(), date.day(), left]));
-        let sheets: Vec<SheetCall> = (0..GROUP_COUNT)
-            .flat_map(|group| {
-                let book = self.book.as_ref().expect("a book was founded");
-                self.market.draft(&mut self.random, book, group)
-            })
-            .collect();
+        let book = self.book.as_ref().expect("a book was founded");
+        let sheets = self.market.draft_all(&mut self.random, book);
         let first_check = self.random.below(8);
         for (place, sheet) in sheets.into_iter().enumerate() {
             self.call(Call::Sheet(sheet));
@@ -107,9 +103,8 @@ impl Course {
         let tick = PRODUCTS[product].standard_tick;
         let limit = self.book().limit_today(product);
         let far = self.random.pick(&[0, limit, limit + tick]);
-        let down = entry.settlement.saturating_sub(far).max(tick);
-        let up = (entry.settlement + far).min(LARGEST_PRICE);
-        let price = self.random.pick(&[down, up]);
+        let Span { lowest, highest } = Span::around(entry.settlement, far, tick);
+        let price = self.random.pick(&[lowest, highest]);
         self.call(Call::Check([product as u32, 0, entry.month, price]));
     }
 }

@@ -1,5 +1,6 @@
 //! Faults of a sheet, alone or several together, at its first or its last entries.
 
+use super::market::moved;
 use crate::book::sheet::LARGEST_SHEET;
 use crate::book::Book;
 use crate::dates::is_spot;
@@ -131,14 +132,7 @@ impl Spoiler<'_> {
         let last = last.expect("a due contract was listed");
         let ticks = self.random.pick(&[1, 1, 1, 2, 500]);
         let size = self.book.limit_today(product) + ticks * tick;
-        let up = (last + size <= LARGEST_PRICE).then_some(last + size);
-        let down = (last >= size + tick).then(|| last - size);
-        let choice = if self.random.one_in(2) {
-            up.or(down)
-        } else {
-            down.or(up)
-        };
-        if let Some(settlement) = choice {
+        if let Some(settlement) = moved(self.random, last, size, tick) {
             self.call.settlements[index] = settlement;
         }
     }

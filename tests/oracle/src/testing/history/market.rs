@@ -1,7 +1,7 @@
 //! Where contracts settle on a day: moods that bring a group to each of its events.
 
 use super::listing::{self, Custom};
-use crate::book::{Book, Level, Limits, GROUPS};
+use crate::book::{Book, Level, Limits, GROUPS, GROUP_COUNT};
 use crate::dates::is_spot;
 use crate::history::call::SheetCall;
 use crate::prices::{is_price, LARGEST_PRICE};
@@ -87,7 +87,15 @@ const AT_EXPANDED: [Mood; 12] = [
 ];
 
 impl Market {
-    /// Sheets of a group for the open day, which the book accepts.
+    /// The eight sheets of the open day, which the book accepts.
+    pub fn draft_all(&self, random: &mut Random, book: &Book) -> Vec<SheetCall> {
+        let groups = 0..GROUP_COUNT;
+        groups
+            .flat_map(|group| self.draft(random, book, group))
+            .collect()
+    }
+
+    /// The sheets of a group.
     pub fn draft(&self, random: &mut Random, book: &Book, group: usize) -> Vec<SheetCall> {
         let mut lines = Vec::new();
         for &product in GROUPS[group] {
@@ -212,7 +220,7 @@ fn amount(random: &mut Random, limits: Limits, size: Size, tick: u32) -> u32 {
 }
 
 /// Up or down by a size, where the result is a settlement.
-fn moved(random: &mut Random, last: u32, size: u32, tick: u32) -> Option<u32> {
+pub fn moved(random: &mut Random, last: u32, size: u32, tick: u32) -> Option<u32> {
     let up = (last + size <= LARGEST_PRICE).then_some(last + size);
     let down = (last >= size + tick).then(|| last - size);
     let (first, second) = match random.one_in(2) {

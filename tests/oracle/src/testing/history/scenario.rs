@@ -6,7 +6,6 @@ use super::pace;
 use super::temper::{self, Temper};
 use super::writer::Writer;
 use super::{faults, stray};
-use crate::book::{Book, GROUP_COUNT};
 use crate::history::call::{Call, SheetCall};
 use crate::testing::random::Random;
 
@@ -55,10 +54,6 @@ pub fn history_of(seed: u64, lines: usize) -> History {
 }
 
 impl Scenario {
-    fn book(&self) -> &Book {
-        self.writer.book.as_ref().expect("a book was founded")
-    }
-
     fn call(&mut self, call: Call) -> String {
         self.writer.call(&call)
     }
@@ -103,7 +98,7 @@ impl Scenario {
         let date = calendar().days[self.today];
         let next = [date.year(), date.month(), date.day(), left];
         if self.takes_chance() {
-            let book = self.writer.book.as_ref().expect("a book was founded");
+            let book = self.writer.book();
             let call = stray::false_opening(&mut self.random, book, next);
             self.call(call);
         }
@@ -131,12 +126,8 @@ impl Scenario {
 
     /// Files eight sheets in any order, with strays between them.
     fn sheets(&mut self) {
-        let mut sheets: Vec<SheetCall> = (0..GROUP_COUNT)
-            .flat_map(|group| {
-                let book = self.writer.book.as_ref().expect("a book was founded");
-                self.temper.market.draft(&mut self.random, book, group)
-            })
-            .collect();
+        let book = self.writer.book();
+        let mut sheets = self.temper.market.draft_all(&mut self.random, book);
         self.random.shuffle(&mut sheets);
         for sheet in sheets {
             if self.takes_chance() {
@@ -154,7 +145,7 @@ impl Scenario {
     }
 
     fn spoiled(&mut self, good: &SheetCall) {
-        let book = self.writer.book.as_ref().expect("a book was founded");
+        let book = self.writer.book();
         let call = faults::spoil(&mut self.random, book, good);
         // What a fault did not reach stays good, and is filed in its turn.
         if call != *good {
@@ -164,16 +155,14 @@ impl Scenario {
 
     /// Writes a call only if the book refuses it.
     fn call_refused(&mut self, call: Call) {
-        let mut book = self.writer.book.clone();
-        let answer = crate::history::answer::answer(&mut book, &call);
-        if answer.starts_with("refused") {
+        if stray::is_refused(&self.writer.model, &call) {
             self.call(call);
         }
     }
 
     fn stray_while_open(&mut self) {
         let random = &mut self.random;
-        let book = self.writer.book.as_ref().expect("a book was founded");
+        let book = self.writer.book();
         let lively = stray::lively_product(random, book);
         match random.below(12) {
             0 => drop(self.call(Call::Book)),
@@ -183,17 +172,17 @@ impl Scenario {
                 self.call(call);
             }
             3 | 4 => {
-                let call = stray::false_check(random, book);
-                self.call(call);
+                let order = stray::false_order(random, book);
+                self.call(Call::Check(order));
             }
             5 => self.stray_anytime(),
             6 => {
-                let call = stray::check_of(random, book, lively);
-                self.call(call);
+                let order = stray::order_of(random, book, lively);
+                self.call(Call::Check(order));
             }
             _ => {
-                let call = stray::check(random, book);
-                self.call(call);
+                let order = stray::order(random, book);
+                self.call(Call::Check(order));
             }
         }
     }
@@ -220,16 +209,16 @@ impl Scenario {
             return;
         }
         let random = &mut self.random;
-        let book = self.writer.book.as_ref().expect("a book was founded");
+        let book = self.writer.book();
         match random.below(6) {
             0 => drop(self.call(Call::End)),
             1 => {
-                let call = stray::check(random, book);
-                self.call(call);
+                let order = stray::order(random, book);
+                self.call(Call::Check(order));
             }
             2 => {
-                let call = stray::false_check(random, book);
-                self.call(call);
+                let order = stray::false_order(random, book);
+                self.call(Call::Check(order));
             }
             3 => self.stray_sheet_while_closed(),
             _ => self.stray_anytime(),
@@ -239,12 +228,8 @@ impl Scenario {
     /// The last ended sheet again, at times with faults.
     fn stray_sheet_while_closed(&mut self) {
         let product = self.random.below(8);
-        let last = self.book().last_ended[product].clone().unwrap_or_default();
-        let mut sheet = SheetCall {
-            product: self.random.pick(&[product as u32, product as u32, 8]),
-            months: last.iter().map(|entry| entry.month).collect(),
-            settlements: last.iter().map(|entry| entry.settlement).collect(),
-        };
+        let book = self.writer.book();
+        let mut sheet = stray::last_sheet(&mut self.random, book, product);
         match self.random.below(4) {
             0 => sheet.months.reverse(),
             1 => sheet.settlements.iter_mut().for_each(|one| *one = 0),

@@ -90,7 +90,7 @@ impl Pair {
         let book = book.expect("a book was founded");
         let checks = (0..random.below(5)).map(|_| {
             let product = GROUPS[self.group][random.below(GROUPS[self.group].len())];
-            check(random, &book, product)
+            Call::Check(order(random, &book, product))
         });
         Agreed {
             opening,
@@ -130,15 +130,13 @@ impl Pair {
     }
 }
 
-/// A check of a product, at times a false one.
-fn check(random: &mut Random, book: &Book, product: usize) -> Call {
+/// An order of a product, at times a false one.
+fn order(random: &mut Random, book: &Book, product: usize) -> [u32; 4] {
     if !random.one_in(5) {
-        return stray::check_of(random, book, product);
+        return stray::order_of(random, book, product);
     }
-    match stray::false_check(random, book) {
-        Call::Check([_, size, month, price]) => Call::Check([product as u32, size, month, price]),
-        other => other,
-    }
+    let [_, size, month, price] = stray::false_order(random, book);
+    [product as u32, size, month, price]
 }
 
 /// A step of an open day.
@@ -180,8 +178,7 @@ impl Side {
 
     /// Writes a call only if the book refuses it.
     fn call_refused(&mut self, call: &Call) {
-        let mut book = self.book.clone();
-        if answer::answer(&mut book, call).starts_with("refused") {
+        if stray::is_refused(&self.book, call) {
             self.call(call);
         }
     }
@@ -225,7 +222,7 @@ impl Side {
         let book = self.book.as_ref().expect("a book was founded");
         let calls = [
             Call::End,
-            stray::check(&mut self.random, book),
+            Call::Check(stray::order(&mut self.random, book)),
             stray::false_opening(&mut self.random, book, opening),
             Call::Found(stray::unfit_limits(&mut self.random)),
         ];
@@ -249,8 +246,8 @@ impl Side {
             }
             (2, _) => return self.call_refused(&Call::End),
             (3, _) => stray::bare(&mut self.random),
-            (4, _) => stray::false_check(&mut self.random, book),
-            _ => stray::check(&mut self.random, book),
+            (4, _) => Call::Check(stray::false_order(&mut self.random, book)),
+            _ => Call::Check(stray::order(&mut self.random, book)),
         };
         self.call(&call);
     }

@@ -3,7 +3,8 @@
 use super::market::at_an_edge;
 use crate::amounts::LARGEST_LIMIT;
 use crate::book::Book;
-use crate::history::call::Call;
+use crate::history::answer;
+use crate::history::call::{Call, SheetCall};
 use crate::prices::LARGEST_PRICE;
 use crate::products::{Product, PRODUCTS};
 use crate::testing::random::Random;
@@ -66,14 +67,31 @@ pub fn false_opening(random: &mut Random, book: &Book, next: [u32; 4]) -> Call {
     })
 }
 
-/// A check that mostly asks for a listed contract at the ends of its span.
-pub fn check(random: &mut Random, book: &Book) -> Call {
-    let product = random.below(8);
-    check_of(random, book, product)
+/// Whether a book refuses a call.
+pub fn is_refused(book: &Option<Book>, call: &Call) -> bool {
+    let mut book = book.clone();
+    answer::answer(&mut book, call).starts_with("refused")
 }
 
-/// A check of a given product.
-pub fn check_of(random: &mut Random, book: &Book, product: usize) -> Call {
+/// The last ended sheet again, at times for no product; an empty one, where there is none.
+pub fn last_sheet(random: &mut Random, book: &Book, product: usize) -> SheetCall {
+    let last = book.last_ended[product].iter().flatten();
+    let product = product as u32;
+    SheetCall {
+        product: random.pick(&[product, product, 8]),
+        months: last.clone().map(|entry| entry.month).collect(),
+        settlements: last.map(|entry| entry.settlement).collect(),
+    }
+}
+
+/// Product, size, month and price of a check, mostly on a listed contract at the ends of its span.
+pub fn order(random: &mut Random, book: &Book) -> [u32; 4] {
+    let product = random.below(8);
+    order_of(random, book, product)
+}
+
+/// An order of a given product.
+pub fn order_of(random: &mut Random, book: &Book, product: usize) -> [u32; 4] {
     let row = &PRODUCTS[product];
     let size = match row.mini_tick {
         Some(_) => random.below(2) as u32,
@@ -81,7 +99,7 @@ pub fn check_of(random: &mut Random, book: &Book, product: usize) -> Call {
     };
     let month = listed_month(random, book, product);
     let price = price(random, book, product, (size, month));
-    Call::Check([product as u32, size, month, price])
+    [product as u32, size, month, price]
 }
 
 /// A month of the last ended sheet; any, where there is none.
@@ -110,11 +128,9 @@ fn price_near(random: &mut Random, span: Span, tick: u32) -> u32 {
     random.pick(&[lowest, lowest - tick, highest, highest + tick, inside])
 }
 
-/// A check with one or two faults.
-pub fn false_check(random: &mut Random, book: &Book) -> Call {
-    let Call::Check(mut numbers) = check(random, book) else {
-        unreachable!("a check is a check");
-    };
+/// An order with one or two faults.
+pub fn false_order(random: &mut Random, book: &Book) -> [u32; 4] {
+    let mut numbers = order(random, book);
     for _ in 0..random.between(1, 2) {
         match random.below(4) {
             0 => numbers[0] = random.pick(&[8, 9, 256, u32::MAX]),
@@ -123,7 +139,7 @@ pub fn false_check(random: &mut Random, book: &Book) -> Call {
             _ => numbers[3] = random.pick(&[0, numbers[3] | 1, LARGEST_PRICE + 2, u32::MAX]),
         }
     }
-    Call::Check(numbers)
+    numbers
 }
 
 /// A bare check, at times with one or two faults.

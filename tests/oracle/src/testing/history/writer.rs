@@ -10,8 +10,8 @@ use crate::testing::random::Random;
 pub struct Writer {
     pub text: Vec<u8>,
     pub lines: usize,
-    /// The model: what this implementation made of the lines so far.
-    pub book: Option<Book>,
+    /// What this implementation made of the lines so far.
+    pub model: Option<Book>,
     pub coverage: Coverage,
     /// Draws how numbers are written.
     hand: Random,
@@ -22,10 +22,15 @@ impl Writer {
         Writer {
             text: Vec::new(),
             lines: 0,
-            book: None,
+            model: None,
             coverage: Coverage::default(),
             hand: Random::new(seed ^ 0xD1617),
         }
+    }
+
+    /// The model, once a book was founded.
+    pub fn book(&self) -> &Book {
+        self.model.as_ref().expect("a book was founded")
     }
 
     /// Writes a call, at times with leading zeros, and gives the model's answer.
@@ -68,10 +73,10 @@ impl Writer {
     }
 
     fn answer(&mut self, call: &Call) -> String {
-        let before = self.book.clone();
-        let answer = answer::answer(&mut self.book, call);
+        let before = self.model.clone();
+        let answer = answer::answer(&mut self.model, call);
         self.coverage
-            .observe(before.as_ref(), call, &answer, self.book.as_ref());
+            .observe(before.as_ref(), call, &answer, self.model.as_ref());
         answer
     }
 }

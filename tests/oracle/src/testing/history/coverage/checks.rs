@@ -68,30 +68,24 @@ pub fn observe(coverage: &mut Coverage, numbers: &[u32; 4], seen: &Seen) {
     }
 }
 
-/// Every refusal that applies, in the order of the rule, each judged for itself.
-fn faults(numbers: &[u32; 4], book: &Book) -> Vec<u32> {
+/// Every refusal in the order of the rule, and whether it applies, each judged for itself.
+fn rows(numbers: &[u32; 4], book: &Book) -> [(u32, bool); 4] {
     let [number, size, month, price] = *numbers;
     let row = product(number);
     let tick = row.and_then(|row| row.tick(size));
     let day = book.open_day().ok().map(|(date, _)| date);
     let is_before = day.is_some_and(|date: Date| month < date.contract_month());
     let is_listed = row.is_some() && book.last_settlement(number as usize, month).is_some();
-    let all = [
+    [
         (2, !book.is_open),
         (5, tick.is_none()),
         (14, is_before || !is_listed),
         (8, !is_price(price, tick.unwrap_or(1))),
-    ];
-    let apply = all.into_iter().filter(|(_, applies)| *applies);
-    apply.map(|(number, _)| number).collect()
+    ]
 }
 
 fn observe_refused(coverage: &mut Coverage, numbers: &[u32; 4], book: &Book, refusal: u32) {
-    let faults = faults(numbers, book);
-    assert_eq!(faults.first(), Some(&refusal), "the first that applies");
-    for later in &faults[1..] {
-        coverage.count(format!("check: {refusal} over {later}"));
-    }
+    coverage.count_over("check", refusal, &rows(numbers, book));
     match refusal {
         2 => coverage.count("check: refused 2"),
         5 => observe_product(coverage, numbers),

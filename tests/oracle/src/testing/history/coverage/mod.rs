@@ -47,6 +47,15 @@ impl Coverage {
         }
     }
 
+    /// Counts the refusals that come after the one that was given, which has to be the first that applies.
+    fn count_over(&mut self, call: &str, refusal: u32, rows: &[(u32, bool)]) {
+        let mut apply = rows.iter().filter(|(_, applies)| *applies);
+        assert_eq!(apply.next(), Some(&(refusal, true)), "{call}");
+        for (later, _) in apply {
+            self.count(format!("{call}: {refusal} over {later}"));
+        }
+    }
+
     pub fn add(&mut self, other: &Coverage) {
         for (what, times) in &other.counts {
             *self.counts.entry(what.clone()).or_insert(0) += times;

@@ -4,6 +4,7 @@ use super::{Coverage, Seen};
 use crate::book::window::LARGEST_WINDOW;
 use crate::book::{Book, Level, PRODUCT_COUNT};
 use crate::dates::Date;
+use crate::products::PRODUCTS;
 
 const WANTED: [&str; 31] = [
     "open: refused 2",
@@ -52,29 +53,23 @@ pub fn observe(coverage: &mut Coverage, numbers: &[u32; 4], seen: &Seen) {
     }
 }
 
-/// The refusals 2, 3 and 4 that apply, whatever the order.
-fn faults(numbers: &[u32; 4], book: &Book) -> Vec<u32> {
+/// Every refusal in the order of the rule, and whether it applies, each judged for itself.
+fn rows(numbers: &[u32; 4], book: &Book) -> [(u32, bool); 3] {
     let [year, month, day, left] = *numbers;
     let date = Date::new(year, month, day);
     let last = book.last_opened().map(|(date, _)| date);
     // A false date is compared as its three numbers.
     let is_not_later = book.date.is_some_and(|last| [year, month, day] <= last);
     let is_false = date.is_none_or(|date| left > date.days_remaining());
-    let all = [
+    [
         (2, book.is_open),
         (3, is_false),
         (4, last.is_some() && is_not_later),
-    ];
-    let apply = all.into_iter().filter(|(_, applies)| *applies);
-    apply.map(|(number, _)| number).collect()
+    ]
 }
 
 fn observe_refused(coverage: &mut Coverage, numbers: &[u32; 4], book: &Book, refusal: u32) {
-    let faults = faults(numbers, book);
-    assert_eq!(faults.first(), Some(&refusal), "the first that applies");
-    for later in &faults[1..] {
-        coverage.count(format!("open: {refusal} over {later}"));
-    }
+    coverage.count_over("open", refusal, &rows(numbers, book));
     let [year, month, day, _] = *numbers;
     let is_false = Date::new(year, month, day).is_none();
     let is_same = book.date == Some([year, month, day]);
@@ -169,7 +164,7 @@ fn observe_next_season(coverage: &mut Coverage, seen: &Seen, date: Date) {
 fn observe_renewed(coverage: &mut Coverage, seen: &Seen, product: usize) {
     coverage.count(format!("season: product {product} renewed"));
     let limits = seen.after.limits[product];
-    let floor = crate::products::PRODUCTS[product].floor;
+    let floor = PRODUCTS[product].floor;
     coverage.count_if(limits.initial == floor, "season: next, limit at the floor");
     coverage.count(match limits == seen.before.limits[product] {
         true => "season: next, limits equal",

@@ -2,6 +2,7 @@
 
 use super::{Coverage, Seen};
 use crate::amounts::LARGEST_LIMIT;
+use crate::book::groups::group_of;
 use crate::book::sheet::{self, LARGEST_SHEET};
 use crate::book::{Book, Level};
 use crate::dates::{is_spot, Date};
@@ -249,8 +250,7 @@ fn observe_beyond(coverage: &mut Coverage, call: &SheetCall, book: &Book, place:
     let tick = product(call.product).map_or(1, |row| row.standard_tick);
     let is_one_tick = settlement.abs_diff(last) == limit + tick;
     coverage.count_if(is_one_tick, "sheet: refused 10, by one tick");
-    let group = crate::book::groups::group_of(number);
-    let is_expanded = book.standings[group].level == Level::Expanded;
+    let is_expanded = book.standings[group_of(number)].level == Level::Expanded;
     coverage.count_if(is_expanded, "sheet: refused 10, at the expanded level");
 }
 
