@@ -8,7 +8,7 @@ use oracle::verdict::SpanWords;
 
 use crate::memory::Edge;
 
-/// The arguments of the bare check and of its ends.
+/// The bare check, or one of the calls for its ends.
 type Bare = unsafe extern "C" fn(u32, u32, u32, u32, u32, u32) -> u32;
 
 extern "C" {

@@ -55,9 +55,9 @@ pub fn check(order: &Order) -> Result<Verdict, Refusal> {
     ))
 }
 
-/// The number that C sees.
-pub fn number(order: &Order) -> u32 {
-    SpanWords::from(check(order)).answer
+/// What C sees.
+pub fn span(order: &Order) -> SpanWords {
+    SpanWords::from(check(order))
 }
 
 /// The bare check and its ends, for the C test that compares them with the proved ones.
@@ -70,8 +70,9 @@ pub extern "C" fn oracle_bare_span(
     spot: u32,
     price: u32,
 ) -> SpanWords {
-    let order = Order::from([product, size, settlement, amount, spot, price]);
-    SpanWords::from(check(&order))
+    span(&Order::from([
+        product, size, settlement, amount, spot, price,
+    ]))
 }
 
 #[cfg(test)]
@@ -83,7 +84,7 @@ mod tests {
 
     /// Product, size, settlement, amount, spot and price.
     fn answer(numbers: [u32; 6]) -> u32 {
-        number(&Order::from(numbers))
+        span(&Order::from(numbers)).answer
     }
 
     #[test]
@@ -96,14 +97,11 @@ mod tests {
 
     #[test]
     fn the_lowest_is_that_of_the_size() {
-        let lowest = |numbers: [u32; 6]| {
-            let span = check(&Order::from(numbers)).ok().and_then(Verdict::span);
-            span.map(|span| span.lowest)
-        };
-        assert_eq!(lowest([CORN, 0, 100, 200, 0, 100]), Some(2));
-        assert_eq!(lowest([CORN, 1, 100, 200, 0, 101]), Some(1));
-        assert_eq!(lowest([CORN, 1, 100, 200, 1, 101]), None);
-        assert_eq!(lowest([CORN, 0, 100, 200, 0, 101]), None);
+        let lowest = |numbers: [u32; 6]| span(&Order::from(numbers)).lowest;
+        assert_eq!(lowest([CORN, 0, 100, 200, 0, 100]), 2);
+        assert_eq!(lowest([CORN, 1, 100, 200, 0, 101]), 1);
+        assert_eq!(lowest([CORN, 1, 100, 200, 1, 101]), 0);
+        assert_eq!(lowest([CORN, 0, 100, 200, 0, 101]), 0);
     }
 
     #[test]

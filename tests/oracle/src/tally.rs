@@ -56,7 +56,7 @@ impl Tally {
 
     /// A bare check through the tally.
     pub fn check(&mut self, order: &Order) -> u32 {
-        self.through(|| bare::number(order))
+        self.through(|| bare::span(order).answer)
     }
 }
 

@@ -129,12 +129,12 @@ fn one_check(program: &Path, folder: &Path) -> io::Result<()> {
         .lines()
         .rfind(|line| line.starts_with("check"))
         .unwrap_or("");
-    let open = format!("{}\n", check).repeat(CHECKS);
+    let checks = format!("{check}\n").repeat(CHECKS);
     let base = write(folder, "base.history", &[&life[..last_end]])?;
     let history = write(
         folder,
         "checks.history",
-        &[&life[..last_end], open.as_bytes()],
+        &[&life[..last_end], checks.as_bytes()],
     )?;
     let time = median(
         (0..ROUNDS)

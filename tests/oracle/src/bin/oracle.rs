@@ -9,7 +9,7 @@ use oracle::season;
 
 const USAGE: &str = "usage: oracle season < FILE | oracle bare < LINES | oracle replay < HISTORY
 season  a season file on standard input; writes its line
-bare    lines PRODUCT SIZE SETTLEMENT AMOUNT SPOT PRICE; writes a number for each
+bare    lines PRODUCT SIZE SETTLEMENT AMOUNT SPOT PRICE; writes for each its number, lowest and highest
 replay  a history of calls; writes a line for each";
 
 fn main() -> ExitCode {
@@ -41,7 +41,8 @@ fn answer_bare() -> io::Result<()> {
         let line = line?;
         let order =
             order(&line).ok_or_else(|| io::Error::other(format!("not six numbers: {line}")))?;
-        writeln!(output, "{}", bare::number(&order))?;
+        let span = bare::span(&order);
+        writeln!(output, "{} {} {}", span.answer, span.lowest, span.highest)?;
     }
     output.flush()
 }

@@ -230,7 +230,7 @@ pub fn moved(random: &mut Random, last: u32, size: u32, tick: u32) -> Option<u32
     first.or(second)
 }
 
-/// Near the product's price, now and then anywhere.
+/// Near the product's price, now and then far from it or at an edge.
 fn new_settlement(random: &mut Random, price: u32, limit: u32, tick: u32) -> u32 {
     if random.one_in(12) {
         let half = (price / 2 / tick).max(1);
@@ -241,7 +241,7 @@ fn new_settlement(random: &mut Random, price: u32, limit: u32, tick: u32) -> u32
     tick * random.between((price / tick).max(1), highest / tick)
 }
 
-/// A settlement from which a limit reaches just to where prices begin or end; the first, where there is none.
+/// A settlement from which a limit reaches just to where prices begin or end; the first price, where there is none.
 pub fn at_an_edge(random: &mut Random, limit: u32, tick: u32) -> u32 {
     let from_top = LARGEST_PRICE.saturating_sub(limit);
     match random.pick(&[limit, limit + tick, from_top]) {

@@ -2,10 +2,12 @@
 
 use super::compare::{answered_lines, lines};
 use super::text;
+use crate::history::answer;
 use crate::history::call::{self, Call};
 use crate::prices::is_price;
 use crate::products::product;
-use crate::verdict::Span;
+use crate::refusal::Refusal;
+use crate::verdict::{Span, Verdict};
 
 /// A history in which four orders follow each check that gave a span, and the answers that are due.
 #[derive(Default)]
@@ -37,13 +39,11 @@ struct Order {
 impl Order {
     /// The line of the same order at another price.
     fn at(&self, price: u32) -> String {
-        text::line(&match self.call {
-            Call::Check([product, size, month, _]) => Call::Check([product, size, month, price]),
-            Call::Bare([product, size, settlement, amount, spot, _]) => {
-                Call::Bare([product, size, settlement, amount, spot, price])
-            }
-            ref other => other.clone(),
-        })
+        let mut call = self.call.clone();
+        if let Call::Check([.., own]) | Call::Bare([.., own]) = &mut call {
+            *own = price;
+        }
+        text::line(&call)
     }
 }
 
@@ -77,20 +77,20 @@ impl SentAgain {
     }
 
     /// An end is within, and beyond it no price is; each answer has the same span.
-    fn send(&mut self, order: &Order, Span { lowest, highest }: Span) {
-        let due = |kind: &str, price: u32| match is_price(price, order.tick) {
-            true => format!("{kind}:{lowest}:{highest}"),
-            false => "refused 8".to_string(),
+    fn send(&mut self, order: &Order, span: Span) {
+        let beyond = |price, verdict| match is_price(price, order.tick) {
+            true => answer::verdict(verdict),
+            false => answer::refused(Refusal::Price.number()),
         };
-        let (under, over) = (
-            lowest.wrapping_sub(order.tick),
-            highest.wrapping_add(order.tick),
-        );
+        // A program's ends may be any numbers.
+        let below = span.lowest.wrapping_sub(order.tick);
+        let above = span.highest.wrapping_add(order.tick);
+        let within = answer::verdict(Verdict::Within(span));
         let orders = [
-            (lowest, format!("within:{lowest}:{highest}")),
-            (highest, format!("within:{lowest}:{highest}")),
-            (under, due("below", under)),
-            (over, due("above", over)),
+            (span.lowest, within.clone()),
+            (span.highest, within),
+            (below, beyond(below, Verdict::Below(span))),
+            (above, beyond(above, Verdict::Above(span))),
         ];
         for (price, answer) in orders {
             self.push(order.at(price).as_bytes(), answer.as_bytes());

@@ -55,7 +55,7 @@ pub fn pair(group: usize, seed: u64) -> Pair {
         second.temper.limits = first.temper.limits;
     }
     if seed.is_multiple_of(RENEWED) {
-        first.temper.renew(&mut random, GROUPS[group]);
+        temper::renew(&mut random, &mut first.temper, GROUPS[group]);
     }
     sides.iter_mut().for_each(Side::found);
     let mut pair = Pair { group, sides };

@@ -96,16 +96,14 @@ const A_YEAR: usize = 9;
 /// One in so many is none.
 const NEVER: usize = usize::MAX;
 
-impl Temper {
-    /// Fills the windows of these products in one season, so that the next gives them new limits.
-    pub fn renew(&mut self, random: &mut Random, products: &[usize]) {
-        self.first_day = season_start(random);
-        self.pace = Pace::NextSeason(random.pick(&[46, 47, 52, 60]));
-        for &product in products {
-            let custom = &mut self.market.customs[product];
-            custom.contracts = custom.contracts.max(A_YEAR);
-            custom.leaves_out = NEVER;
-        }
+/// Fills the windows of these products in one season, so that the next gives them new limits.
+pub fn renew(random: &mut Random, temper: &mut Temper, products: &[usize]) {
+    temper.first_day = season_start(random);
+    temper.pace = Pace::NextSeason(random.pick(&[46, 47, 52, 60]));
+    for &product in products {
+        let custom = &mut temper.market.customs[product];
+        custom.contracts = custom.contracts.max(A_YEAR);
+        custom.leaves_out = NEVER;
     }
 }
 
