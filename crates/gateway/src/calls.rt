@@ -4,10 +4,8 @@ ghost use mathlib.Core.List.{[], _∷_};
 ghost use mathlib.Core.Path.{_≡_};
 ghost use Rattle.record.specs.Record.{opening, sheet, end};
 ghost use Rattle.opening.specs.Opens.{dayOn};
-ghost use Rattle.checking.specs.Checks.{checkedAs};
-ghost use Rattle.gateway.specs.Calls.{answerNumber, RespondsImage, imageCheck, FoundsImage};
-use checking::Checked;
-use grain::verdict_number;
+ghost use Rattle.gateway.specs.Calls.{RespondsImage, imageCheck, FoundsImage};
+use crate::spans::botskhela_check_span;
 use image::WORDS;
 use image::book_in;
 use image::put_ended;
@@ -99,15 +97,6 @@ pub extern "C" fn botskhela_end(words: &mut [u32; WORDS]) -> u32
     0
 }
 
-fn checked_number(checked: Checked) -> u32
-    ensures { λ r. ⌜ r ≡ answerNumber (checkedAs checked) ⌝ }
-{
-    match checked {
-        Checked::Is(verdict) => verdict_number(verdict),
-        Checked::Refused(n) => n,
-    }
-}
-
 #[no_mangle]
 pub extern "C" fn botskhela_check(
     words: &[u32; WORDS],
@@ -118,5 +107,7 @@ pub extern "C" fn botskhela_check(
 ) -> u32
     ensures { λ r. ⌜ r ≡ imageCheck (now (words .entry)) product size month price ⌝ }
 {
-    checked_number(checking::check(book_in(words), product, size, month, price))
+    // By the check with its span: the compiler then puts the check into that one function, and makes no copy of the book for it.
+    let spanned = botskhela_check_span(words, product, size, month, price);
+    spanned.answer
 }
