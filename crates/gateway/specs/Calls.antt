@@ -5,7 +5,8 @@ use mathlib.Core.Bool.{true, false, cond}
 use mathlib.Core.List.{List, map}
 use mathlib.Core.Option.{some}
 use lib.ListN.{replicate}
-use Rattle.grain.specs.Bare.{verdictNumber, noSpan, verdictSpan}
+use Rattle.grain.specs.Check.{spanIn}
+use Rattle.grain.specs.Bare.{verdictNumber, noSpan, spanOr}
 use Rattle.grain.specs.Refusals.{unfitAmount}
 use Rattle.grain.specs.declared.check.Span.{Span}
 use Rattle.record.specs.Founding.{Start, isFitStart, founded}
@@ -64,7 +65,7 @@ answerSpan (refused n) = noSpan
 answerSpan (opened l) = noSpan
 answerSpan filed = noSpan
 answerSpan (ended l) = noSpan
-answerSpan (checked v) = verdictSpan v
+answerSpan (checked v) = spanOr (spanIn v)
 
 abbrev pub withSpan : Answer → Spanned
 withSpan a = record { answer = answerNumber a; lowest = answerSpan a .lowest; highest = answerSpan a .highest }

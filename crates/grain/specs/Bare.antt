@@ -1,11 +1,12 @@
 -- The bare check: a price against a settlement and an amount, with no book.
 use Prim.Native.Nat.{ℕ}
 use mathlib.Core.Bool.{not, _&&_, cond}
+use mathlib.Core.Option.{Option, some, none}
 use lib.Dec.{eqb}
 use Rattle.grain.specs.Products.{tickOf, isOffered}
 use Rattle.grain.specs.Prices.{isPrice, isSettlement}
 use Rattle.grain.specs.Amounts.{isFitAmount}
-use Rattle.grain.specs.Check.{verdict}
+use Rattle.grain.specs.Check.{verdict, spanIn}
 use Rattle.grain.specs.Refusals.{noSuchProduct, badPrice, unfitAmount}
 use Rattle.grain.specs.declared.check.Span.{Span}
 use Rattle.grain.specs.declared.check.Verdict.{Verdict}
@@ -53,14 +54,12 @@ bareCheck product size settlement amount spot price = bareNumber (bareAnswer pro
 abbrev pub noSpan : Span
 noSpan = record { lowest = 0; highest = 0 }
 
-abbrev pub verdictSpan : Verdict → Span
-verdictSpan Free = noSpan
-verdictSpan (Within s) = s
-verdictSpan (Below s) = s
-verdictSpan (Above s) = s
+abbrev pub spanOr : Option Span → Span
+spanOr none = noSpan
+spanOr (some s) = s
 
 abbrev pub bareSpan : BareAnswer → Span
-bareSpan (Is v) = verdictSpan v
+bareSpan (Is v) = spanOr (spanIn v)
 bareSpan NoSuchProduct = noSpan
 bareSpan BadPrice = noSpan
 bareSpan UnfitAmount = noSpan

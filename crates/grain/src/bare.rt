@@ -1,6 +1,7 @@
 // The bare check: a price against a settlement and an amount, with no book.
 ghost use mathlib.Core.Path.{_≡_};
-ghost use Rattle.grain.specs.Bare.{bareAnswer, verdictNumber, bareNumber, verdictSpan};
+ghost use Rattle.grain.specs.Check.{spanIn};
+ghost use Rattle.grain.specs.Bare.{bareAnswer, verdictNumber, bareNumber, spanOr};
 use crate::amounts::is_fit_amount;
 use crate::check::Span;
 use crate::check::Verdict;
@@ -73,7 +74,7 @@ pub fn bare_number(answer: BareAnswer) -> u32
 }
 
 pub fn verdict_span(verdict: Verdict) -> Span
-    ensures { λ r. ⌜ r ≡ verdictSpan verdict ⌝ }
+    ensures { λ r. ⌜ r ≡ spanOr (spanIn verdict) ⌝ }
 {
     match verdict {
         // Two zeros are no prices.
