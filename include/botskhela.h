@@ -228,7 +228,8 @@ uint32_t botskhela_bare_check(uint32_t product, uint32_t size, uint32_t settleme
  *
  * The lowest is the settlement minus the amount, but not under the tick of the product and size; the highest is the
  * settlement plus the amount, but not over 1,000,000. Both are prices on that tick, the settlement is not below the one nor
- * above the other, and of the prices on that tick exactly those from the lowest to the highest are within.
+ * above the other, and of the prices on that tick exactly those from the lowest to the highest are within. They keep no state
+ * either.
  */
 uint32_t botskhela_bare_lowest(uint32_t product, uint32_t size, uint32_t settlement,
                                uint32_t amount, uint32_t spot, uint32_t price);
@@ -236,7 +237,7 @@ uint32_t botskhela_bare_highest(uint32_t product, uint32_t size, uint32_t settle
                                 uint32_t amount, uint32_t spot, uint32_t price);
 
 /*
- * The same check through a tally, which is not null.
+ * The bare check through a tally, which is not null.
  *
  * Returns BOTSKHELA_UNSOUND, where asked is not the sum of the other five, then BOTSKHELA_TALLY_FULL, and leaves the tally
  * as it is. Otherwise it returns what botskhela_bare_check returns, and counts it: one more asked, and one more of free,
@@ -314,7 +315,7 @@ botskhela_span botskhela_check_span(const botskhela_book *book, uint32_t product
                                     uint32_t price);
 
 /*
- * The same check through a tally, which is not null and does not overlap the book.
+ * The check on a book through a tally, which is not null and does not overlap the book.
  *
  * Returns the tally's own BOTSKHELA_UNSOUND, then BOTSKHELA_TALLY_FULL, and leaves it as it is. Otherwise it returns what
  * botskhela_check returns, and counts it; a refusal, the book's own BOTSKHELA_UNSOUND too, counts as refused.
