@@ -9,9 +9,10 @@ use borrow.Author.Tests.{eq-eqb, ne-eqb, ltb-true, ltb-false}
 use Rattle.grain.specs.Lists.{_and_, every}
 use Rattle.grain.specs.Products.{tickOf}
 use Rattle.grain.specs.Refusals.{noSuchProduct}
+use Rattle.grain.specs.declared.spot.TradeDate.{TradeDate}
 use Rattle.grain.proofs.Columns.{tick-beyond}
 use Rattle.record.specs.Refusals.{when, unsound, wrongPhase}
-use Rattle.record.specs.State.{Product, groupOf, groupAt, productIn, sheetOr}
+use Rattle.record.specs.State.{Product, tradeDate, groupOf, groupAt, productIn, todaysLimit, sheetOr}
 use Rattle.record.specs.Check.{termsTests}
 use Rattle.record.specs.Sound.{isSound}
 use Rattle.record.specs.Record.{termsIn, termsRefusal}
@@ -21,9 +22,10 @@ use Rattle.book.specs.declared.Book.{Book}
 use Rattle.book.specs.Book.{lastIn, viewProduct, viewCommon, view}
 use Rattle.book.proofs.Numbered.{none-by}
 use Rattle.book.proofs.SheetsIn.{sheet-contracts}
-use Rattle.book.proofs.SoundFacts.{last-fits}
+use Rattle.book.proofs.SoundFacts.{day-in, last-fits}
 use Rattle.book.proofs.Views.{product-is}
 use Rattle.checking.specs.declared.terms.Offered.{Offered}
+use Rattle.checking.specs.declared.terms.Terms as declared
 use Rattle.checking.specs.Terms.{viewTerms, noTerms, Offers}
 
 -- a size that is offered is a product's
@@ -72,10 +74,14 @@ module _ (b : Book) (p size : ℕ) where
       unfolding termsRefusal termsTests view viewCommon
       offered n = rw (sound, isOpen, ne-eqb (tickOf p size) 0 n)
 
-    -- the sheet of the last ended day
-    pub last-is : p < 8 → sheetOr (productIn (groupAt (view b) (groupOf p)) p .last) ≡ entriesOf (lastIn b p)
+    last-is : p < 8 → sheetOr (productIn (groupAt (view b) (groupOf p)) p .last) ≡ entriesOf (lastIn b p)
     unfolding viewProduct
     last-is h =
         ap (λ (q : Product). sheetOr (q .last)) (product-is b p h)
         ∙ sheet-contracts (lastIn b p)
         ∙ counted (lastIn b p) (last-fits b sound p h)
+
+    pub terms-are : (t : declared.Terms) (tick : ℕ) (date : TradeDate) → p < 8 → tick ≡ tickOf p size → date ≡ tradeDate (b .day)
+        → t ≡ record { tick = tick; limit = todaysLimit (groupAt (view b) (groupOf p)) p; date = date; last = lastIn b p }
+        → viewTerms t ≡ termsIn (view b) p size
+    terms-are t tick date h e d is = rw (is, e, d, day-in b, last-is h)

@@ -1,12 +1,8 @@
 // The terms of a check: what holds for a product and size on the open day, whatever the month and price.
 ghost use mathlib.Core.Path.{_≡_};
-ghost use mathlib.Core.Bool.{true};
-ghost use Prim.Native.Nat.{ℕ, _<_};
-ghost use Rattle.record.specs.State.{tradeDate};
-ghost use Rattle.record.specs.Record.{termsIn};
-ghost use Rattle.record.specs.Sound.{isSound};
-ghost use Rattle.book.specs.Book.{view};
-ghost use Rattle.grain.specs.Products.{tickOf};
+ghost use Prim.Native.Nat.{_<_};
+ghost use Rattle.record.specs.State.{groupOf, groupAt, todaysLimit};
+ghost use Rattle.book.specs.Book.{lastIn, view};
 ghost use Rattle.checking.specs.Terms.{viewTerms, noTerms, Offers};
 use book::Book;
 use book::Dated;
@@ -47,8 +43,8 @@ fn refused(refusal: u32) -> Offered
 
 // Past all refusals.
 fn granted(b: Book, date: TradeDate, p: usize, tick: u32) -> Terms
-    requires { ⌜ (p < 8) × (isSound (view b) ≡ true) × (date ≡ tradeDate (b .day)) ⌝ }
-    ensures { λ r. ⌜ ((size : ℕ) → tick ≡ tickOf p size → viewTerms r ≡ termsIn (view b) p size) ⌝ }
+    requires { ⌜ p < 8 ⌝ }
+    ensures { λ r. ⌜ r ≡ record { tick = tick; limit = todaysLimit (groupAt (view b) (groupOf p)) p; date = date; last = lastIn b p } ⌝ }
 {
     let lasts = b.last;
     Terms {

@@ -1,41 +1,46 @@
--- The span of a bare check by its number: two zeros up to that of free.
+-- The span of a bare check by its number: none up to that of free, and above it the one of its numbers.
 use Prim.Native.Nat.{ℕ, _<_, _≤_}
 use mathlib.Core.Path.{_≡_, refl}
 use mathlib.Core.Bool.{Bool, true, false, not, _&&_, cond}
 use native.Mathlib.Omega.{arith}
-use lib.Dec.{leb, ltb, eqb}
-use Rattle.grain.specs.Lists.{distance}
+use lib.Dec.{eqb}
 use Rattle.grain.specs.Products.{tickOf, isOffered}
 use Rattle.grain.specs.Prices.{isPrice, isSettlement}
 use Rattle.grain.specs.Amounts.{isFitAmount}
-use Rattle.grain.specs.Check.{spanBy, verdict}
-use Rattle.grain.specs.Bare.{free, bareAnswer, bareNumber, noSpan, bareSpan}
-use Rattle.grain.specs.declared.check.Span.{Span}
+use Rattle.grain.specs.Check.{spanBy, verdict, spanIn}
+use Rattle.grain.specs.Bare.{free, bareAnswer, verdictNumber, bareNumber, bareCheck, noSpan, spanOr, bareSpan}
+use Rattle.grain.specs.declared.check.Verdict.{Verdict}
 use Rattle.grain.specs.declared.check.Verdict.the-variants.{Free, Within, Below, Above}
 use Rattle.grain.specs.declared.bare.BareAnswer.{BareAnswer}
 use Rattle.grain.specs.declared.bare.BareAnswer.the-variants.{Is, NoSuchProduct, BadPrice, UnfitAmount}
+use Rattle.grain.proofs.Judged.{limited-span, is-free}
 
--- an answer that carries a span carries this one
-abbrev Spans : Span → BareAnswer → Type 0
-Spans s a = (bareNumber a ≤ free → bareSpan a ≡ noSpan) × (free < bareNumber a → bareSpan a ≡ s)
+pub none-to-free : (a : BareAnswer) → bareNumber a ≤ free → bareSpan a ≡ noSpan
+none-to-free (Is Free) l = refl
+none-to-free (Is (Within s)) l = absurd (omega arith)
+none-to-free (Is (Below s)) l = absurd (omega arith)
+none-to-free (Is (Above s)) l = absurd (omega arith)
+none-to-free NoSuchProduct l = refl
+none-to-free BadPrice l = refl
+none-to-free UnfitAmount l = refl
 
-module _ (s : Span) where
-  by-tests : (a b c spot near under : Bool)
-      → Spans s
-      (cond a NoSuchProduct
-      (cond b BadPrice (cond c UnfitAmount (Is (cond spot Free (cond near (Within s) (cond under (Below s) (Above s))))))))
-  by-tests true b c spot near under = ((λ l. refl), (λ l. absurd (omega arith)))
-  by-tests false true c spot near under = ((λ l. refl), (λ l. absurd (omega arith)))
-  by-tests false false true spot near under = ((λ l. refl), (λ l. absurd (omega arith)))
-  by-tests false false false true near under = ((λ l. refl), (λ l. absurd (omega arith)))
-  by-tests false false false false true under = ((λ l. absurd (omega arith)), (λ l. refl))
-  by-tests false false false false false true = ((λ l. absurd (omega arith)), (λ l. refl))
-  by-tests false false false false false false = ((λ l. absurd (omega arith)), (λ l. refl))
+module _ (product size settlement amount spot price : ℕ) where
+  judged-span : (isSpot : Bool) → free < verdictNumber (verdict isSpot (tickOf product size) settlement amount price)
+      → spanOr (spanIn (verdict isSpot (tickOf product size) settlement amount price)) ≡ spanBy (tickOf product size) settlement amount
+  judged-span true l = absurd (omega (arith, rw (is-free (tickOf product size) settlement amount price) at l))
+  judged-span false l = rw (limited-span (tickOf product size) settlement amount price)
 
-pub bare-spans : (product size settlement amount spot price : ℕ)
-    → Spans (spanBy (tickOf product size) settlement amount) (bareAnswer product size settlement amount spot price)
-unfolding bareAnswer verdict
-bare-spans product size settlement amount spot price =
-    by-tests (spanBy (tickOf product size) settlement amount) (not (isOffered product size))
-    (not (isSettlement product settlement && isPrice product size price)) (not (isFitAmount product amount)) (not (eqb spot 0))
-    (leb (distance price settlement) amount) (ltb price settlement)
+  pub some-above-free : free < bareCheck product size settlement amount spot price
+      → bareSpan (bareAnswer product size settlement amount spot price) ≡ spanBy (tickOf product size) settlement amount
+  unfolding bareAnswer
+  some-above-free =
+      go (not (isOffered product size)) (not (isSettlement product settlement && isPrice product size price)) (not (isFitAmount product amount))
+      _ (judged-span (not (eqb spot 0)))
+    where
+      go : (a b c : Bool) (v : Verdict) → (free < verdictNumber v → spanOr (spanIn v) ≡ spanBy (tickOf product size) settlement amount)
+          → free < bareNumber (cond a NoSuchProduct (cond b BadPrice (cond c UnfitAmount (Is v))))
+          → bareSpan (cond a NoSuchProduct (cond b BadPrice (cond c UnfitAmount (Is v)))) ≡ spanBy (tickOf product size) settlement amount
+      go true b c v h l = absurd (omega arith)
+      go false true c v h l = absurd (omega arith)
+      go false false true v h l = absurd (omega arith)
+      go false false false v h l = h l

@@ -2,8 +2,7 @@ pub mod Leaves
 pub mod Numbers
 pub mod Imaged
 pub mod TallyWords
-pub mod BareAnswers
 pub mod BareSpans
-pub mod BookAnswers
+pub mod NotFull
 pub mod Proved
 pub mod Ties

@@ -1,11 +1,11 @@
 -- What holds of every list of checks through one tally, bare ones and those on books.
 use mathlib.Core.Path.{refl}
+use Rattle.grain.specs.Bare.{bareAnswer}
 use Rattle.tally.specs.Through.{talliedAnswer, tallyAfter}
 use Rattle.tally.proofs.Totals.{Lawful}
 use Rattle.tally.proofs.Proved.{through-one-tally}
 use Rattle.gateway.specs.Through.{bareChecks, BareThroughOneTally, imageChecks, ImagesThroughOneTally}
-use Rattle.gateway.proofs.BareAnswers.{bare-not-tallys}
-use Rattle.gateway.proofs.BookAnswers.{image-not-full}
+use Rattle.gateway.proofs.NotFull.{bare-not-full, image-not-full}
 
 bare-lawful : Lawful bareChecks
 unfolding talliedAnswer tallyAfter
@@ -13,7 +13,7 @@ bare-lawful =
     record {
       answers = λ t o r u p. p .answer;
       tally = λ t o r u p. p .tally;
-      notFull = λ o. bare-not-tallys (o .product) (o .size) (o .settlement) (o .amount) (o .spot) (o .price) .1;
+      notFull = λ o. bare-not-full (bareAnswer (o .product) (o .size) (o .settlement) (o .amount) (o .spot) (o .price));
       saysFull = refl;
     }
 

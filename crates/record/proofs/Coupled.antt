@@ -1,16 +1,13 @@
 -- Prices between I and E are within exactly on the expanded level, so for all products of a group or for none.
 use Prim.Native.Nat.{ℕ}
 use mathlib.Core.Path.{_≡_, refl, ap, sym, _∙_}
-use mathlib.Core.Bool.{Bool, true, false, cond}
+use mathlib.Core.Bool.{false}
 use mathlib.Core.Option.{Option, some, none}
-use lib.Dec.{ltb}
 use borrow.Author.Tests.{le-leb, lt-leb}
-use Rattle.grain.specs.Lists.{distance}
 use Rattle.grain.specs.Products.{tickOf}
-use Rattle.grain.specs.Check.{spanBy, verdict, isWithin}
-use Rattle.grain.specs.declared.check.Span.{Span}
+use Rattle.grain.specs.Check.{verdict, isWithin}
 use Rattle.grain.specs.declared.check.Verdict.{Verdict}
-use Rattle.grain.specs.declared.check.Verdict.the-variants.{Below, Above}
+use Rattle.grain.proofs.Judged.{within-by}
 use Rattle.record.specs.State.{Level, initial, expanded, Record, groupTable, groupOf, groupAt, productIn, limitAt}
 use Rattle.record.specs.Check.{judged}
 use Rattle.record.specs.Sound.{isExpanded}
@@ -27,21 +24,13 @@ one-level r =
       meal = record { level = refl; limit = refl };
     }
 
-not-within : (b : Bool) (s : Span) → isWithin (cond b (Below s) (Above s)) ≡ false
-not-within true s = refl
-not-within false s = refl
-
 module _ (r : Record) (p month price : ℕ) (w : BetweenLimits r p month price) where
   by-level : (tick : ℕ) (l : Level)
       → isWithin
       (verdict false tick (w .settlement) (limitAt l (productIn (groupAt r (groupOf p)) p .initialLimit) (productIn (groupAt r (groupOf p)) p .expandedLimit)) price)
       ≡ isExpanded l
-  unfolding verdict
-  by-level tick initial =
-      rw (lt-leb (distance price (w .settlement)) (productIn (groupAt r (groupOf p)) p .initialLimit) (w .beyondInitial))
-      (not-within (ltb price (w .settlement)) (spanBy tick (w .settlement) (productIn (groupAt r (groupOf p)) p .initialLimit)))
-  by-level tick expanded =
-      rw (le-leb (distance price (w .settlement)) (productIn (groupAt r (groupOf p)) p .expandedLimit) (w .notBeyondExpanded))
+  by-level tick initial = within-by tick (w .settlement) _ price ∙ lt-leb _ _ (w .beyondInitial)
+  by-level tick expanded = within-by tick (w .settlement) _ price ∙ le-leb _ _ (w .notBeyondExpanded)
 
   -- what an accepted check answers
   within-by-level : (size : ℕ) (v : Verdict) → respond r (check p size month price) .answer ≡ checked v

@@ -1,13 +1,12 @@
 -- What one accepted check says of every other price of its contract.
 use Prim.Native.Nat.{ℕ, _≤_}
 use mathlib.Core.Path.{_≡_, refl, sym, _∙_, ap}
-use mathlib.Core.Bool.{Bool, true, false, not, _&&_, cond}
+use mathlib.Core.Bool.{Bool, true, false, not, _&&_}
 use mathlib.Core.List.{_∷_}
 use mathlib.Core.Option.{Option, some, none}
-use lib.Dec.{leb, ltb}
+use lib.Dec.{leb}
 use borrow.Author.Tests.{le-leb, not-false}
 use native.Mathlib.Omega.{arith}
-use Rattle.grain.specs.Lists.{distance}
 use Rattle.grain.specs.Products.{isOffered}
 use Rattle.grain.specs.Prices.{isPrice}
 use Rattle.grain.specs.Check.{spanBy, verdict, spanIn, isWithin}
@@ -15,7 +14,8 @@ use Rattle.grain.specs.Spot.{isSpot}
 use Rattle.grain.specs.Spans.{SpanOf}
 use Rattle.grain.specs.declared.check.Span.{Span}
 use Rattle.grain.specs.declared.check.Verdict.{Verdict}
-use Rattle.grain.specs.declared.check.Verdict.the-variants.{Within, Below, Above}
+use Rattle.grain.specs.declared.check.Verdict.the-variants.{Within}
+use Rattle.grain.proofs.Judged.{limited-span, is-free, within-only}
 use Rattle.grain.proofs.Spanned.{every-span}
 use Rattle.record.specs.Choices.{isSome}
 use Rattle.record.specs.Refusals.{when, unsound}
@@ -27,31 +27,16 @@ use Rattle.record.specs.Theorems.{Resent}
 use Rattle.record.proofs.Cleared.{cleared}
 use Rattle.record.proofs.Settled.{rests}
 
--- ---- verdicts that are not free
-within-is : (t x l price : ℕ) → isWithin (verdict false t x l price) ≡ true → verdict false t x l price ≡ Within (spanBy t x l)
-unfolding verdict
-within-is t x l price e = go (leb (distance price x) l) (ltb price x) e
-  where
-    go : (a b : Bool) → isWithin (cond a (Within (spanBy t x l)) (cond b (Below (spanBy t x l)) (Above (spanBy t x l)))) ≡ true
-        → cond a (Within (spanBy t x l)) (cond b (Below (spanBy t x l)) (Above (spanBy t x l))) ≡ Within (spanBy t x l)
-    go true b h = refl
-    go false true h = let z : _≡_ {A = Bool} false true = h in cc
-    go false false h = let z : _≡_ {A = Bool} false true = h in cc
-
 -- a verdict that carries a span is of a contract that is not spot, and the span is that of the terms
 record Carried (spot : Bool) (t x l : ℕ) (s : Span) : Type 0 where
   notSpot : spot ≡ false
   isSpan : s ≡ spanBy t x l
 
 carried : (spot : Bool) (t x l price : ℕ) (s : Span) → spanIn (verdict spot t x l price) ≡ some s → Carried spot t x l s
-unfolding verdict
-carried true t x l price s e = let z : _≡_ {A = Option Span} none (some s) = e in record { notSpot = cc; isSpan = cc }
-carried false t x l price s e = record { notSpot = refl; isSpan = go (leb (distance price x) l) (ltb price x) e }
-  where
-    go : (a b : Bool) → spanIn (cond a (Within (spanBy t x l)) (cond b (Below (spanBy t x l)) (Above (spanBy t x l)))) ≡ some s → s ≡ spanBy t x l
-    go true b h = let z : some (spanBy t x l) ≡ some s = h in cc
-    go false true h = let z : some (spanBy t x l) ≡ some s = h in cc
-    go false false h = let z : some (spanBy t x l) ≡ some s = h in cc
+carried true t x l price s e =
+    let z : _≡_ {A = Option Span} none (some s) = sym (ap spanIn (is-free t x l price)) ∙ e in record { notSpot = cc; isSpan = cc }
+carried false t x l price s e =
+    let z : some (spanBy t x l) ≡ some s = sym (limited-span t x l price) ∙ e in record { notSpot = refl; isSpan = cc }
 
 -- ---- an accepted check
 some-of : (o : Option ℕ) → isSome o ≡ true → (x : ℕ) × (o ≡ some x)
@@ -122,7 +107,8 @@ module _ (r : Record) (p size month : ℕ) where
       at-end : (end : ℕ) → isPrice p size end ≡ true → isWithin (verdict false (on .tick) x (on .limit) end) ≡ true
           → respond r (check p size month end) .answer ≡ checked (Within (spanBy (on .tick) x (on .limit)))
       at-end end passes within =
-          again price end v k passes ∙ ap checked (judged-limited end ∙ within-is (on .tick) x (on .limit) end within)
+          again price end v k passes
+          ∙ ap checked (judged-limited end ∙ within-only _ _ within (limited-span (on .tick) x (on .limit) end))
 
       elsewhere : (other : ℕ) (w : Verdict) → respond r (check p size month other) .answer ≡ checked w
           → isWithin w ≡ (leb (spanBy (on .tick) x (on .limit) .lowest) other && leb other (spanBy (on .tick) x (on .limit) .highest))

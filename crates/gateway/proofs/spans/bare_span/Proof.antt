@@ -1,8 +1,8 @@
 use borrow.Author.Needs.{needs}
 use mathlib.Core.Path.{sym, _∙_}
 use Prim.Native.Nat.{_<_, _≤_}
-use Rattle.grain.specs.Bare.{free, bareCheck}
-use Rattle.gateway.proofs.BareSpans.{bare-spans}
+use Rattle.grain.specs.Bare.{free, bareAnswer, bareCheck}
+use Rattle.gateway.proofs.BareSpans.{none-to-free, some-above-free}
 use Rattle.gateway.proofs.spans.bare_span.Statement.{statement}
 use Rattle.gateway.proofs.spans.bare_span.Tie as tie
 
@@ -13,7 +13,7 @@ returns : tie.Need-returns
 returns c =
     let a = c .before .before .args in
     let low : bareCheck (a .product) (a .size) (a .settlement) (a .amount) (a .spot) (a .price) ≤ free = rw (c .before .botskhela-bare-check .ensures) at (c .if1 .taken) in
-    sym (bare-spans (a .product) (a .size) (a .settlement) (a .amount) (a .spot) (a .price) .0 low)
+    sym (none-to-free (bareAnswer (a .product) (a .size) (a .settlement) (a .amount) (a .spot) (a .price)) low)
 
 tick-requires : tie.Need-tick-requires
 tick-requires c κs = search needs
@@ -25,7 +25,7 @@ returns-2 : tie.Need-returns-2
 returns-2 c =
     let a = c .before .before .before .before .args in
     let high : free < bareCheck (a .product) (a .size) (a .settlement) (a .amount) (a .spot) (a .price) = rw (c .before .before .before .botskhela-bare-check .ensures) at (c .before .before .if1 .left) in
-    c .by .ensures ∙ rw (c .before .tick .ensures) (sym (bare-spans (a .product) (a .size) (a .settlement) (a .amount) (a .spot) (a .price) .1 high))
+    c .by .ensures ∙ rw (c .before .tick .ensures) (sym (some-above-free (a .product) (a .size) (a .settlement) (a .amount) (a .spot) (a .price) high))
 
 pub bare-span-spec : {M : Type 1} → statement M
 bare-span-spec =

@@ -11,7 +11,7 @@ use Rattle.record.specs.Sound.{isSound}
 use Rattle.book.specs.Book.{view}
 use Rattle.book.proofs.TradeDates.{has-date, date-is}
 use Rattle.book.proofs.SoundFacts.{open-true}
-use Rattle.checking.proofs.Offering.{offered-product, refuses, grants, unsound-refuses, closed-refuses, not-offered, offered}
+use Rattle.checking.proofs.Offering.{offered-product, refuses, grants, unsound-refuses, closed-refuses, not-offered, offered, terms-are}
 use Rattle.checking.proofs.terms.Terms.of.Statement.{statement}
 use Rattle.checking.proofs.terms.Terms.of.Tie as tie
 
@@ -82,18 +82,19 @@ returns-4 c =
     absurd (has-date _ (true-day (t .before .before)) (t .trade-date .result) (t .trade-date .ensures) (c .before .enum-told .given .1))
 
 granted-requires : tie.Need-granted-requires
-granted-requires c κs =
-    let t = c .before .before .before in
-    let e = t .before .before in
-    (a-product e, sound (e .before .before .before .before), date-is _ (true-day e) (t .trade-date .result) _ (t .trade-date .ensures) (c .before .date .given .1))
+granted-requires c κs = a-product (c .before .before .before .before .before)
 
 returns-5 : tie.Need-returns-5
 returns-5 c =
-    let e = c .before .before .before .before .before .before in
+    let k = c .before in
+    let t = k .before .before .before in
+    let e = t .before .before in
     let a = e .before .before .before .before .before .before .args in
+    let s = sound (e .before .before .before .before) in
+    let date = date-is _ (true-day e) (t .trade-date .result) _ (t .trade-date .ensures) (k .before .date .given .1) in
     grants (a .b) (a .product) (a .size)
-    (offered (a .b) (a .product) (a .size) (sound (e .before .before .before .before)) (not-false _ (e .before .before .if2 .left)) (has-tick e))
-    _ refl (c .granted .ensures (a .size) (e .before .tick .ensures))
+    (offered (a .b) (a .product) (a .size) s (not-false _ (e .before .before .if2 .left)) (has-tick e)) _ refl
+    (terms-are (a .b) (a .product) (a .size) s _ _ _ (a-product e) (e .before .tick .ensures) date (c .granted .ensures))
 
 pub of-spec : {M : Type 1} → statement M
 of-spec =
