@@ -1,30 +1,23 @@
--- What a true day says of its date, and of its trade date.
+-- What a true day says of its trade date.
 use Prim.Native.Nat.{ℕ}
 use mathlib.Core.Path.{_≡_, sym, _∙_}
 use mathlib.Core.Bool.{true}
 use native.Mathlib.Omega.{arith}
-use lib.Dec.{leb}
 use borrow.Author.Tests.{le-leb}
-use Rattle.grain.specs.Dates.{isDate, daysRemaining}
 use Rattle.grain.specs.declared.spot.TradeDate.{TradeDate}
-use Rattle.grain.proofs.Tests.{&&-left}
-use Rattle.grain.proofs.ValidDates.{valid-date}
 use Rattle.record.specs.declared.Day.{Day}
 use Rattle.record.specs.State.{tradeDate}
 use Rattle.record.specs.Opening.{isTrueDay}
+use Rattle.record.proofs.TrueDays.{valid}
 use Rattle.book.specs.declared.dates.Dated.{Dated}
 use Rattle.book.specs.declared.dates.Dated.the-variants.{On, NoDay}
 use Rattle.book.specs.Dates.{tradeDateOf, datedAs}
 
 module _ (d : Day) (t : isTrueDay d ≡ true) where
-  pub true-date : isDate (d .year) (d .month) (d .day) ≡ true
-  unfolding isTrueDay
-  true-date = &&-left (isDate (d .year) (d .month) (d .day)) (leb (d .left) (daysRemaining (d .year) (d .month) (d .day))) t
-
   dated-on : datedAs (tradeDateOf d) ≡ On (tradeDate d)
   unfolding tradeDateOf
   dated-on =
-      let is = valid-date (d .year) (d .month) (d .day) true-date in
+      let is = valid d t in
       rw (le-leb (d .year) 2098 (is .last), le-leb 1 (d .month) (is .someMonth), le-leb (d .month) 12 (is .lastMonth))
 
   -- it has a trade date

@@ -6,12 +6,11 @@ use mathlib.Core.Option.{Option, some, none}
 use native.Mathlib.Omega.{arith}
 use lib.Dec.{eqb}
 use Rattle.grain.specs.Dates.{contractMonth}
-use Rattle.grain.proofs.ValidDates.{valid-date}
 use Rattle.record.specs.declared.Day.{Day}
 use Rattle.record.specs.State.{monthOf}
 use Rattle.record.specs.Opening.{isTrueDay}
 use Rattle.record.specs.Window.{newCropMonth}
-use Rattle.book.proofs.TradeDates.{true-date}
+use Rattle.record.proofs.TrueDays.{valid}
 use Rattle.ending.specs.Ends.{collectingAs, monthIn}
 
 pub record Falls (d : Day) (month : ℕ) : Type 0 where
@@ -23,7 +22,7 @@ pub record Falls (d : Day) (month : ℕ) : Type 0 where
 pub dated : (d : Day) (month : ℕ) → isTrueDay d ≡ true → month ≡ monthOf d → Falls d month
 unfolding contractMonth
 dated d month t e =
-    let v = valid-date (d .year) (d .month) (d .day) (true-date d t) in
+    let v = valid d t in
     let some-month = v .someMonth in
     record { falls = omega arith; first = v .first; last = v .last; lastMonth = v .lastMonth }
 

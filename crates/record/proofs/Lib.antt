@@ -1,5 +1,6 @@
 pub mod Maps
 pub mod Checks
+pub mod TrueDays
 pub mod CheckTerms
 pub mod Cleared
 pub mod Kept

@@ -1,6 +1,6 @@
 use borrow.Author.Needs.{needs}
 use native.Mathlib.Omega.{arith}
-use Rattle.opening.proofs.TrueDays.{valid, day-small}
+use Rattle.record.proofs.TrueDays.{valid, day-small}
 use Rattle.opening.proofs.refusals.date_number.Statement.{statement}
 use Rattle.opening.proofs.refusals.date_number.Tie as tie
 

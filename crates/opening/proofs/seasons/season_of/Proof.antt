@@ -2,7 +2,7 @@ use borrow.Author.Needs.{needs}
 use mathlib.Core.Path.{_≡_, sym, _∙_}
 use mathlib.Core.Bool.{Bool, true, false}
 use Rattle.grain.proofs.FactsOfDates.{no-date, dated}
-use Rattle.book.proofs.TradeDates.{true-date}
+use Rattle.record.proofs.TrueDays.{true-date}
 use Rattle.opening.proofs.seasons.season_of.Statement.{statement}
 use Rattle.opening.proofs.seasons.season_of.Tie as tie
 
