@@ -64,12 +64,3 @@ sound-refusal r c t = rw t
 pub unsound-refusal : (r : Record) (c : Call) → isSound r ≡ false → refusal r c ≡ some unsound
 unfolding refusal
 unsound-refusal r c t = rw t
-
--- an accepted call is on a sound Record
-pub accepted-sound : (r : Record) (c : Call) → refusal r c ≡ none → (isSound r ≡ true) × (first (tests r c) ≡ none)
-unfolding refusal
-accepted-sound r c e = go (isSound r) e
-  where
-    go : (b : Bool) → cond (not b) (some unsound) (first (tests r c)) ≡ none → (b ≡ true) × (first (tests r c) ≡ none)
-    go true h = (refl, h)
-    go false h = let z : _≡_ {A = Option ℕ} (some unsound) none = h in (cc, cc)

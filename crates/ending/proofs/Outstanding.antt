@@ -14,7 +14,7 @@ use Rattle.book.specs.declared.Book.{Book}
 use Rattle.book.specs.Book.{todayIn, viewProduct, viewGroups, viewCommon, view}
 use Rattle.book.specs.Soundness.{eight}
 use Rattle.book.proofs.Shown.{flat}
-use Rattle.record.proofs.Cleared.{cleared}
+use Rattle.record.proofs.Cleared.{Clear}
 
 module _ {A : Type 0} (f h : A → Bool) (opposite : (x : A) → h x ≡ not (f x)) where
   pub one-not : (l : List A) → any h l ≡ not (every f l)
@@ -50,6 +50,6 @@ end-tests b =
     ap (λ (x : Bool). cond (not (b .«is_open»)) (some wrongPhase) (cond x (some sheetOutstanding) none)) (outstanding-is b)
 
 -- a day is open where none of them refuses
-pub accepted-open : (b : Book) → first (tests (view b) end) ≡ none → b .«is_open» ≡ true
+pub accepted-open : (b : Book) → Clear (tests (view b) end) → b .«is_open» ≡ true
 unfolding tests view viewCommon
-accepted-open b e = not-false (b .«is_open») (cleared (tests (view b) end) e .0)
+accepted-open b passed = not-false (b .«is_open») (passed .0)

@@ -10,10 +10,10 @@ use Rattle.record.specs.Refusals.{when, first, wrongPhase, notLater}
 use Rattle.record.specs.Opening.{isTrueDay, isNotLater, openingTests}
 use Rattle.record.specs.Sound.{isSound}
 use Rattle.record.specs.Record.{opening, tests, refusal}
-use Rattle.record.proofs.Cleared.{cleared}
+use Rattle.record.proofs.Cleared.{accepted-clear}
 use Rattle.book.specs.declared.Book.{Book}
 use Rattle.book.specs.Book.{openedOf, viewCommon, view}
-use Rattle.book.proofs.Numbered.{sound-refusal, accepted-sound}
+use Rattle.book.proofs.Numbered.{sound-refusal}
 
 pub sound-opening : (b : Book) (d : Day) → isSound (view b) ≡ true
     → refusal (view b) (opening d)
@@ -29,6 +29,5 @@ pub accepted-opening : (b : Book) (d : Day) → refusal (view b) (opening d) ≡
     → (isSound (view b) ≡ true) × (isTrueDay d ≡ true)
 unfolding tests openingTests view viewCommon
 accepted-opening b d e =
-    let s = accepted-sound (view b) (opening d) e in
-    let passed = cleared (tests (view b) (opening d)) (s .1) in
-    (s .0, not-false _ (passed .1 .0))
+    let passed = accepted-clear (view b) (opening d) e in
+    (passed .0, not-false _ (passed .1 .1 .0))

@@ -2,7 +2,6 @@
 use Prim.Native.Nat.{ℕ}
 use mathlib.Core.Path.{_≡_, refl, ap, sym, _∙_}
 use mathlib.Core.Bool.{false}
-use mathlib.Core.Option.{Option, some, none}
 use borrow.Author.Tests.{le-leb, lt-leb}
 use Rattle.grain.specs.Products.{tickOf}
 use Rattle.grain.specs.Check.{verdict, isWithin}
@@ -11,8 +10,9 @@ use Rattle.grain.proofs.Judged.{within-by}
 use Rattle.record.specs.State.{Level, initial, expanded, Record, groupTable, groupOf, groupAt, productIn, limitAt}
 use Rattle.record.specs.Check.{judged}
 use Rattle.record.specs.Sound.{isExpanded}
-use Rattle.record.specs.Record.{check, checked, termsIn, refusal, answer, answerBy, respond}
+use Rattle.record.specs.Record.{check, checked, respond}
 use Rattle.record.specs.Theorems.{OneLevel, BetweenLimits}
+use Rattle.record.proofs.AcceptedChecks.{passed}
 
 pub one-level : (r : Record) → OneLevel r
 unfolding groupTable
@@ -35,15 +35,10 @@ module _ (r : Record) (p month price : ℕ) (w : BetweenLimits r p month price) 
   -- what an accepted check answers
   within-by-level : (size : ℕ) (v : Verdict) → respond r (check p size month price) .answer ≡ checked v
       → isWithin v ≡ isExpanded (groupAt r (groupOf p) .level)
-  unfolding respond answer judged
-  within-by-level size v e = go (refusal r (check p size month price)) e
-    where
-      go : (o : Option ℕ) → answerBy o (answer r (check p size month price)) ≡ checked v
-          → isWithin v ≡ isExpanded (groupAt r (groupOf p) .level)
-      go (some n) e = cc
-      go none e =
-          let is : judged (termsIn r p size) month price ≡ v = cc in
-          rw (← is) (rw (w .notSpot, w .isListed) (by-level (tickOf p size) (groupAt r (groupOf p) .level)))
+  unfolding judged
+  within-by-level size v e =
+      let is = passed r p size month price v e .is in
+      rw (← is) (rw (w .notSpot, w .isListed) (by-level (tickOf p size) (groupAt r (groupOf p) .level)))
 
 pub coupled : (r : Record) (p q i j m n x y : ℕ) (v w : Verdict) → groupOf p ≡ groupOf q
     → BetweenLimits r p m x → BetweenLimits r q n y

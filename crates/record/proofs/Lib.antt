@@ -6,6 +6,7 @@ pub mod Cleared
 pub mod Kept
 pub mod Replayed
 pub mod Independence
+pub mod AcceptedChecks
 pub mod Coupled
 pub mod SoundWindows
 pub mod SoundSheets

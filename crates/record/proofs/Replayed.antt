@@ -6,19 +6,17 @@ use mathlib.Core.List.{List, [], _∷_}
 use mathlib.Core.Option.{Option, some, none}
 use lib.Dec.{eqb}
 use borrow.Author.Tests.{not-false}
-use Rattle.record.specs.Refusals.{when, unsound}
 use Rattle.record.specs.State.{Day, Sheet, Product, Group, Common, Record}
 use Rattle.record.specs.Founding.{Start, founded}
 use Rattle.record.specs.Opening.{openGroup}
 use Rattle.record.specs.Sheet.{contracts, fileProduct, fileGroup}
-use Rattle.record.specs.Sound.{isSound}
 use Rattle.record.specs.Record.{Call, opening, sheet, end, check, tests, refusal, next, nextCommon, nextGroup, respond, stateBy, stateAfter}
 use Rattle.record.specs.History.{ProductSheet, Entry, aDay, add, sheetAmong}
 use Rattle.record.specs.Replay.{commonAfter, over, productWith, groupWith, groupAfter, replay}
 use Rattle.record.specs.Theorems.{after, historyOf}
 use Rattle.record.proofs.Maps.{map-map, map-same}
 use Rattle.record.proofs.Checks.{check-same}
-use Rattle.record.proofs.Cleared.{Clear, cleared}
+use Rattle.record.proofs.Cleared.{accepted-clear}
 use Rattle.record.proofs.Kept.{addUnless, historyFrom, history-kept}
 
 abbrev withProducts : Group → List Product → Group
@@ -94,17 +92,11 @@ module _ (r₀ : Record) (f : IsFresh r₀) where
   accept-end [] o = let z = ap (λ (c : Common). c .isOpen) f in cc
   accept-end (aDay k ∷ es) o = end-on r₀ (k .day) (k .sheets) (k .isEnded) es o
 
-  -- none of the tests of an accepted call applies: 1 first, and for a sheet and an end then 2
-  clear : (es : List Entry) (c : Call) → refusal (replay es r₀) c ≡ none
-      → Clear (when (not (isSound (replay es r₀))) unsound ∷ tests (replay es r₀) c)
-  unfolding refusal
-  clear es c e = cleared (when (not (isSound (replay es r₀))) unsound ∷ tests (replay es r₀) c) e
-
   accepted : (c : Call) (es : List Entry) → refusal (replay es r₀) c ≡ none → next (replay es r₀) c ≡ replay (add c es) r₀
-  unfolding refusal tests replay
+  unfolding tests replay
   accepted (opening d) es e = accept-opening r₀ d es
-  accepted (sheet p ms ss) es e = accept-sheet p ms ss es (not-false _ (clear es (sheet p ms ss) e .1 .0))
-  accepted end es e = accept-end es (not-false _ (clear es end e .1 .0))
+  accepted (sheet p ms ss) es e = accept-sheet p ms ss es (not-false _ (accepted-clear (replay es r₀) (sheet p ms ss) e .1 .0))
+  accepted end es e = accept-end es (not-false _ (accepted-clear (replay es r₀) end e .1 .0))
   accepted (check p size month price) es e = check-same (replay es r₀) p size month price
 
   stepped : (c : Call) (es : List Entry)

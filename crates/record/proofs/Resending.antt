@@ -1,13 +1,11 @@
 -- What one accepted check says of every other price of its contract.
 use Prim.Native.Nat.{ℕ, _≤_}
 use mathlib.Core.Path.{_≡_, refl, sym, _∙_, ap}
-use mathlib.Core.Bool.{Bool, true, false, not, _&&_}
-use mathlib.Core.List.{_∷_}
+use mathlib.Core.Bool.{Bool, true, false, _&&_}
 use mathlib.Core.Option.{Option, some, none}
 use lib.Dec.{leb}
-use borrow.Author.Tests.{le-leb, not-false}
+use borrow.Author.Tests.{le-leb}
 use native.Mathlib.Omega.{arith}
-use Rattle.grain.specs.Products.{isOffered}
 use Rattle.grain.specs.Prices.{isPrice}
 use Rattle.grain.specs.Check.{spanBy, verdict, spanIn, isWithin}
 use Rattle.grain.specs.Spot.{isSpot}
@@ -18,13 +16,11 @@ use Rattle.grain.specs.declared.check.Verdict.the-variants.{Within}
 use Rattle.grain.proofs.Judged.{limited-span, is-free, within-only}
 use Rattle.grain.proofs.Spanned.{every-span}
 use Rattle.record.specs.Choices.{isSome}
-use Rattle.record.specs.Refusals.{when, unsound}
 use Rattle.record.specs.State.{Record}
 use Rattle.record.specs.Check.{Terms, listed, termsTests, orderTests, judged}
-use Rattle.record.specs.Sound.{isSound}
-use Rattle.record.specs.Record.{check, checked, termsIn, tests, refusal, answer, answerBy, respond}
+use Rattle.record.specs.Record.{check, checked, termsIn, tests, refusal, answer, respond}
 use Rattle.record.specs.Theorems.{Resent}
-use Rattle.record.proofs.Cleared.{cleared}
+use Rattle.record.proofs.AcceptedChecks.{Passed, passed}
 use Rattle.record.proofs.Settled.{rests}
 
 -- a verdict that carries a span is of a contract that is not spot, and the span is that of the terms
@@ -47,40 +43,8 @@ module _ (r : Record) (p size month : ℕ) where
   abbrev on : Terms
   on = termsIn r p size
 
-  -- what passed its tests
-  record Passed (price : ℕ) (v : Verdict) : Type 0 where
-    sound : isSound r ≡ true
-    isOpen : r .common .isOpen ≡ true
-    offered : isOffered p size ≡ true
-    isListed : isSome (listed (on .date) (on .last) month) ≡ true
-    passes : isPrice p size price ≡ true
-    is : judged on month price ≡ v
-
-  accepted : (price : ℕ) (v : Verdict) → respond r (check p size month price) .answer ≡ checked v
-      → (refusal r (check p size month price) ≡ none) × (judged on month price ≡ v)
-  unfolding respond answer
-  accepted price v e = go (refusal r (check p size month price)) e
-    where
-      go : (o : Option ℕ) → answerBy o (checked (judged on month price)) ≡ checked v → (o ≡ none) × (judged on month price ≡ v)
-      go (some n) h = (cc, cc)
-      go none h = (refl, cc)
-
-  passed : (price : ℕ) (v : Verdict) → respond r (check p size month price) .answer ≡ checked v → Passed price v
-  unfolding refusal tests termsTests orderTests
-  passed price v e =
-      let a = accepted price v e in
-      let c = cleared (when (not (isSound r)) unsound ∷ tests r (check p size month price)) (a .0) in
-      record {
-        sound = not-false _ (c .0);
-        isOpen = not-false _ (c .1 .0);
-        offered = not-false _ (c .1 .1 .0);
-        isListed = not-false _ (c .1 .1 .1 .0);
-        passes = not-false _ (c .1 .1 .1 .1 .0);
-        is = a .1;
-      }
-
   -- the same contract at another price that passes 8
-  again : (price other : ℕ) (v : Verdict) → Passed price v → isPrice p size other ≡ true
+  again : (price other : ℕ) (v : Verdict) → Passed r p size month price v → isPrice p size other ≡ true
       → respond r (check p size month other) .answer ≡ checked (judged on month other)
   unfolding respond refusal tests termsTests orderTests answer
   again price other v k e = rw (k .sound, k .isOpen, k .offered, k .isListed, e)
@@ -92,7 +56,7 @@ module _ (r : Record) (p size month : ℕ) where
     judged-by price = rw found
 
     -- and a verdict with a span
-    module _ (price : ℕ) (v : Verdict) (k : Passed price v) (s : Span) (has : spanIn v ≡ some s) where
+    module _ (price : ℕ) (v : Verdict) (k : Passed r p size month price v) (s : Span) (has : spanIn v ≡ some s) where
       is-carried : Carried (isSpot (on .date) month) (on .tick) x (on .limit) s
       is-carried = carried _ _ _ _ price s (ap spanIn (sym (judged-by price) ∙ k .is) ∙ has)
 
@@ -113,7 +77,7 @@ module _ (r : Record) (p size month : ℕ) where
       elsewhere : (other : ℕ) (w : Verdict) → respond r (check p size month other) .answer ≡ checked w
           → isWithin w ≡ (leb (spanBy (on .tick) x (on .limit) .lowest) other && leb other (spanBy (on .tick) x (on .limit) .highest))
       elsewhere other w e =
-          let j = passed other w e in
+          let j = passed r p size month other w e in
           ap isWithin (sym (j .is) ∙ judged-limited other) ∙ is-span .within other (j .passes)
 
       resent-by : Resent r p size month s

@@ -9,7 +9,7 @@ use lib.ListN.{length}
 use Rattle.grain.specs.Lists.{_and_, every}
 use Rattle.grain.proofs.Tests.{and-right, both}
 use Rattle.grain.proofs.Every.{every-map}
-use Rattle.record.specs.Refusals.{when, unsound}
+use Rattle.record.specs.Refusals.{unsound}
 use Rattle.record.specs.State.{Record, groupTable}
 use Rattle.record.specs.Founding.{Start, isFitStart, foundProduct, foundGroup, founded}
 use Rattle.record.specs.Opening.{openingTests}
@@ -18,7 +18,7 @@ use Rattle.record.specs.Check.{termsTests, orderTests}
 use Rattle.record.specs.Sound.{isSoundGroup, isSoundCommon, isSound}
 use Rattle.record.specs.Record.{Call, opening, sheet, end, check, tests, refusal, answer, stateBy, respond, stateAfter, answers}
 use Rattle.record.specs.Theorems.{isRefusal}
-use Rattle.record.proofs.Cleared.{cleared, not-returned}
+use Rattle.record.proofs.Cleared.{accepted-clear, not-returned}
 use Rattle.record.proofs.SoundGroups.{found-group}
 use Rattle.record.proofs.SoundCalls.{facts-sound, accepted-sound}
 
@@ -34,12 +34,12 @@ founded-sound s t =
     }
 
 pub respond-sound : (r : Record) (c : Call) → isSound r ≡ true → isSound (respond r c .state) ≡ true
-unfolding respond refusal
+unfolding respond
 respond-sound r c t = go (refusal r c) refl
   where
     go : (o : Option ℕ) → refusal r c ≡ o → isSound (stateBy o r c) ≡ true
     go (some n) e = t
-    go none e = accepted-sound r c (cleared (when (not (isSound r)) unsound ∷ tests r c) e .1) t
+    go none e = accepted-sound r c (accepted-clear r c e .1) t
 
 pub always-sound : (r : Record) (cs : List Call) → isSound r ≡ true → isSound (stateAfter r cs) ≡ true
 unfolding stateAfter

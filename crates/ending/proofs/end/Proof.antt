@@ -5,10 +5,11 @@ use mathlib.Core.Option.{none}
 use borrow.Author.Tests.{ne-eqb}
 use Rattle.record.specs.Opening.{isTrueDay}
 use Rattle.record.specs.Record.{end, ended, refusal}
+use Rattle.record.proofs.Cleared.{accepted-clear}
 use Rattle.book.specs.Book.{view}
 use Rattle.book.proofs.TradeDates.{has-date, date-is}
 use Rattle.book.proofs.SoundFacts.{open-true}
-use Rattle.book.proofs.Numbered.{refused-by, accepted-by, accepted-sound}
+use Rattle.book.proofs.Numbered.{refused-by, accepted-by}
 use Rattle.book.proofs.Responses.{refused-responds, accepted-responds}
 use Rattle.ending.specs.Ends.{eventsOf}
 use Rattle.ending.proofs.Outstanding.{accepted-open}
@@ -39,7 +40,7 @@ passed c =
 true-day : (c : tie.Else1) → isTrueDay (c .before .before .args .b .day) ≡ true
 true-day c =
     let b = c .before .before .args .b in
-    let sound = accepted-sound (view b) end (passed c) in
+    let sound = accepted-clear (view b) end (passed c) in
     open-true b (sound .0) (accepted-open b (sound .1))
 
 trade-date-requires : tie.Need-trade-date-requires
@@ -64,7 +65,7 @@ accepted-requires c κs =
     let t = c .before .before .before in
     let k = t .before .before in
     let day = true-day k in
-    let sound = accepted-sound (view (k .before .before .args .b)) end (passed k) in
+    let sound = accepted-clear (view (k .before .before .args .b)) end (passed k) in
     (sound .0, day, date-is _ day (t .trade-date .result) _ (t .trade-date .ensures) (c .before .date .given .1))
 
 returns-3 : tie.Need-returns-3
