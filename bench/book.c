@@ -78,14 +78,21 @@ static uint32_t file(const struct library *library, botskhela_book *book, uint32
     return library->sheet(book, product, months, CONTRACTS, settlements[product], CONTRACTS);
 }
 
+/* Opens a day with the calendar days remaining as its left: those fall where every day is opened. */
+static uint32_t open_every(const struct library *library, botskhela_book *book, uint32_t month, uint32_t day,
+                           uint32_t length)
+{
+    return library->open(book, 2024, month, day, length - day);
+}
+
 /* The days of November and December 2024, from 0 on. */
 static uint32_t open_day(const struct library *library, botskhela_book *book, uint32_t day)
 {
-    const uint32_t november = 30;
+    const uint32_t november = 30, december = 31;
 
     if (day < november)
-        return library->open(book, 2024, 11, day + 1, 0);
-    return library->open(book, 2024, 12, day - november + 1, 0);
+        return open_every(library, book, 11, day + 1, november);
+    return open_every(library, book, 12, day - november + 1, december);
 }
 
 static int open_and_file(botskhela_book *book, uint32_t day)

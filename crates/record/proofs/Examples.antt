@@ -197,10 +197,14 @@ abbrev pub complexDay : Day → ℕ → ℕ → ℕ → List Call
 complexDay d s o m =
     fullDay d (oneContract soybeans jul25 s ∷ oneContract oil jul25 o ∷ oneContract meal jul25 m ∷ []) notComplex
 
+-- a day of 2025, with the calendar days remaining as its left: those fall where every day is opened
+abbrev pub of2025 : ℕ → ℕ → Day
+of2025 month day = on 2025 month day (daysRemaining 2025 month day)
+
 -- a count of days in a row, in a month of 2025, from a day of it
 abbrev pub daysOf2025 : (Day → List Call) → ℕ → ℕ → ℕ → List Call
 daysOf2025 calls zero month day = []
-daysOf2025 calls (suc n) month day = calls (on 2025 month day 0) ++ daysOf2025 calls n month (day + 1)
+daysOf2025 calls (suc n) month day = calls (of2025 month day) ++ daysOf2025 calls n month (day + 1)
 
 -- ---- what is computed
 -- The Record after a list of calls. Its line opens every definition of the Record, so that a vector names only this one.

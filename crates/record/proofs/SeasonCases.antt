@@ -7,7 +7,7 @@ use lib.ListN.{replicate}
 use Rattle.record.specs.State.{Day, Record, initial, expanded}
 use Rattle.record.specs.End.{Quiet, Triggered, Held, Raised}
 use Rattle.record.specs.Record.{Call, opening, sheet, opened}
-use Rattle.record.proofs.Examples.{corn, soybeans, oil, meal, chicagoWheat, kcWheat, oats, rice, cornGroup, jul25, nov25, dec25, on, aBook, aBookWith, usualSettlement, oneContract, fullDay, quietDay, cornJulyDay, daysOf2025, stateOf, Limits, limits, lead, outcome, in-one-run, renewal}
+use Rattle.record.proofs.Examples.{corn, soybeans, oil, meal, chicagoWheat, kcWheat, oats, rice, cornGroup, jul25, nov25, dec25, on, of2025, aBook, aBookWith, usualSettlement, oneContract, fullDay, quietDay, cornJulyDay, daysOf2025, stateOf, Limits, limits, lead, outcome, in-one-run, renewal}
 
 -- the limits of the example book
 abbrev asFounded : List Limits
@@ -28,7 +28,7 @@ sixProducts = corn ∷ soybeans ∷ oil ∷ meal ∷ chicagoWheat ∷ kcWheat �
 
 -- Oats without July on the first day, Rough Rice on every day
 abbrev firstDay : List Call
-firstDay = fullDay (on 2025 1 1 0) (oneContract oats dec25 6000 ∷ oneContract rice nov25 3000 ∷ []) sixProducts
+firstDay = fullDay (of2025 1 1) (oneContract oats dec25 6000 ∷ oneContract rice nov25 3000 ∷ []) sixProducts
 
 abbrev laterDay : Day → List Call
 laterDay d =
@@ -139,7 +139,7 @@ firstOpening = refl
 -- ---- a mark over a season
 -- Corn is expanded and marked, at 200/320
 abbrev markedInFebruary : List Call
-markedInFebruary = cornJulyDay (on 2025 2 12 0) 6000 ++ cornJulyDay (on 2025 2 13 0) 6200 ++ cornJulyDay (on 2025 2 14 0) 6520
+markedInFebruary = cornJulyDay (on 2025 2 12 11) 6000 ++ cornJulyDay (on 2025 2 13 10) 6200 ++ cornJulyDay (on 2025 2 14 9) 6520
 
 -- level and mark carry over; the limits are the season's
 pub markCarriedOver :

@@ -22,7 +22,7 @@ oneOfEach =
 
 -- 15 April is collected, 16 April rests
 pub middleOfApril :
-    windowsOf (stateOf aBook (cornJulyDay (on 2025 4 15 0) 6000 ++ cornJulyDay (on 2025 4 16 0) 6100))
+    windowsOf (stateOf aBook (cornJulyDay (on 2025 4 15 10) 6000 ++ cornJulyDay (on 2025 4 16 9) 6100))
     ≡ oneOfEach
 unfolding stateOf
 middleOfApril = refl
