@@ -60,6 +60,7 @@ static inline const char *refusal_name(uint32_t refusal)
         [BOTSKHELA_UNFIT_AMOUNT] = "amount",
         [BOTSKHELA_NOT_LISTED] = "month not listed",
         [BOTSKHELA_TALLY_FULL] = "tally full",
+        [BOTSKHELA_LEFT_NOT_SMALLER] = "left not smaller",
     };
 
     if (refusal == 0 || refusal >= sizeof names / sizeof names[0])

@@ -53,6 +53,7 @@
 #define BOTSKHELA_UNFIT_AMOUNT      13u /* an amount that cannot be a limit                         */
 #define BOTSKHELA_NOT_LISTED        14u /* the month is not on the last ended sheet, or is past     */
 #define BOTSKHELA_TALLY_FULL        15u /* the tally has counted 4,294,967,295 checks               */
+#define BOTSKHELA_LEFT_NOT_SMALLER  16u /* left not smaller than at the last opening of that month  */
 
 /* What an ended day did to a group. */
 #define BOTSKHELA_QUIET     0u /* the initial level stays                                          */
@@ -273,9 +274,11 @@ uint32_t botskhela_found(botskhela_book *book, uint32_t corn, uint32_t soybeans,
                          uint32_t rough_rice);
 
 /*
- * Opens a day. left is the number of business days of the month after it. Sets renewed.
+ * Opens a day. left is the number of business days of the month after it, so that within a month each opening has a smaller
+ * one than the opening before it. Sets renewed.
  *
- * Refusals: BOTSKHELA_UNSOUND, BOTSKHELA_WRONG_PHASE, BOTSKHELA_NO_SUCH_DATE, BOTSKHELA_NOT_LATER.
+ * Refusals: BOTSKHELA_UNSOUND, BOTSKHELA_WRONG_PHASE, BOTSKHELA_NO_SUCH_DATE, BOTSKHELA_NOT_LATER,
+ * BOTSKHELA_LEFT_NOT_SMALLER.
  */
 uint32_t botskhela_open(botskhela_book *book, uint32_t year, uint32_t month, uint32_t day, uint32_t left);
 

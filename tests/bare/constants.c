@@ -41,6 +41,7 @@ static const struct constant {
     CONSTANT(BOTSKHELA_UNFIT_AMOUNT, 13),
     CONSTANT(BOTSKHELA_NOT_LISTED, 14),
     CONSTANT(BOTSKHELA_TALLY_FULL, 15),
+    CONSTANT(BOTSKHELA_LEFT_NOT_SMALLER, 16),
     /* The header's own: the rule numbers neither events nor formats. */
     CONSTANT(BOTSKHELA_QUIET, 0),
     CONSTANT(BOTSKHELA_TRIGGERED, 1),

@@ -6,8 +6,8 @@ use mathlib.Core.Option.{none}
 use borrow.Author.Tests.{not-false}
 use Rattle.grain.specs.Refusals.{noSuchDate}
 use Rattle.record.specs.declared.Day.{Day}
-use Rattle.record.specs.Refusals.{when, first, wrongPhase, notLater}
-use Rattle.record.specs.Opening.{isTrueDay, isNotLater, openingTests}
+use Rattle.record.specs.Refusals.{when, first, wrongPhase, notLater, leftNotSmaller}
+use Rattle.record.specs.Opening.{isTrueDay, isNotLater, isLeftNotSmaller, openingTests}
 use Rattle.record.specs.Sound.{isSound}
 use Rattle.record.specs.Record.{opening, tests, refusal}
 use Rattle.record.proofs.Cleared.{accepted-clear}
@@ -21,6 +21,7 @@ pub sound-opening : (b : Book) (d : Day) → isSound (view b) ≡ true
     (when (b .«is_open») wrongPhase
     ∷ when (not (isTrueDay d)) noSuchDate
     ∷ when (isNotLater (openedOf (b .day)) d) notLater
+    ∷ when (isLeftNotSmaller (openedOf (b .day)) d) leftNotSmaller
     ∷ [])
 unfolding tests openingTests view viewCommon
 sound-opening b d sound = sound-refusal (view b) (opening d) sound

@@ -1,14 +1,15 @@
-// What refuses an opening: 1, 2, 3, 4 in this order.
+// What refuses an opening: 1, 2, 3, 4, 16 in this order.
 ghost use mathlib.Core.Path.{_≡_};
 ghost use mathlib.Core.Bool.{true};
 ghost use Rattle.record.specs.Choices.{orElse};
-ghost use Rattle.record.specs.Opening.{isTrueDay, dateNumber, isNotLater};
+ghost use Rattle.record.specs.Opening.{isTrueDay, dateNumber, isNotLater, isSameMonth, isLeftNotSmaller};
 ghost use Rattle.record.specs.Record.{opening, refusal};
 ghost use Rattle.book.specs.Book.{openedOf, view};
 ghost use Rattle.opening.specs.Opens.{NoneOrTrue};
 use book::Book;
 use grain::refusals::NO_SUCH_DATE;
 use record::Day;
+use record::refusals::LEFT_NOT_SMALLER;
 use record::refusals::NOT_LATER;
 use record::refusals::UNSOUND;
 use record::refusals::WRONG_PHASE;
@@ -31,6 +32,28 @@ fn is_not_later(last: Day, d: Day) -> bool
     date_number(d) <= date_number(last)
 }
 
+fn is_same_month(last: Day, d: Day) -> bool
+    ensures { λ r. ⌜ r ≡ isSameMonth last d ⌝ }
+{
+    if d.year != last.year {
+        return false;
+    }
+    d.month == last.month
+}
+
+// In the month of the last opened day, with a left that has not fallen since.
+fn is_left_not_smaller(last: Day, d: Day) -> bool
+    ensures { λ r. ⌜ r ≡ isLeftNotSmaller (openedOf last) d ⌝ }
+{
+    if book::is_no_day(last) {
+        return false;
+    }
+    if !is_same_month(last, d) {
+        return false;
+    }
+    last.left <= d.left
+}
+
 // 0 where nothing refuses it.
 pub(crate) fn refusal_of(b: Book, d: Day) -> u32
     ensures { λ r. ⌜ r ≡ orElse (refusal (view b) (opening d)) 0 ⌝ }
@@ -47,6 +70,9 @@ pub(crate) fn refusal_of(b: Book, d: Day) -> u32
     let last = b.day;
     if is_not_later(last, d) {
         return NOT_LATER;
+    }
+    if is_left_not_smaller(last, d) {
+        return LEFT_NOT_SMALLER;
     }
     0
 }

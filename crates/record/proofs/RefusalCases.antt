@@ -35,7 +35,7 @@ pub aboveTheMost : isFitStart (record { limits = 200 ∷ 400 ∷ 200 ∷ 200 ∷
 unfolding stateOf
 aboveTheMost = refl
 
--- ---- opening: 2 3 4
+-- ---- opening: 2 3 4 16
 abbrev openedAnew : Answer
 openedAnew = opened (replicate 8 false)
 
@@ -52,7 +52,7 @@ ended3 = cornDay june3 flat
 -- no such date; left above the days remaining in the month
 pub falseDates :
     answersAfter aBook ended3
-    (opening (on 2023 2 29 0) ∷ opening (on 2099 1 4 0) ∷ opening (on 2024 6 4 27) ∷ opening (on 2024 6 4 26) ∷ [])
+    (opening (on 2023 2 29 0) ∷ opening (on 2099 1 4 0) ∷ opening (on 2024 7 1 31) ∷ opening (on 2024 7 1 30) ∷ [])
     ≡ refused 3 ∷ refused 3 ∷ refused 3 ∷ openedAnew ∷ []
 unfolding stateOf
 falseDates = refl
@@ -63,6 +63,40 @@ pub notLater :
     ≡ refused 4 ∷ refused 4 ∷ refused 4 ∷ openedAnew ∷ []
 unfolding stateOf
 notLater = refl
+
+-- 18 are left on 3 June: neither as many nor more are on 4 June, and 17 may be
+pub leftNotSmaller :
+    answersAfter aBook ended3 (opening (on 2024 6 4 18) ∷ opening (on 2024 6 4 26) ∷ opening (on 2024 6 4 17) ∷ [])
+    ≡ refused 16 ∷ refused 16 ∷ openedAnew ∷ []
+unfolding stateOf
+leftNotSmaller = refl
+
+-- 3 and 4 before 16
+pub leftJudgedLast :
+    answersAfter aBook ended3 (opening (on 2024 6 4 27) ∷ opening (on 2024 6 3 18) ∷ opening (on 2024 6 1 20) ∷ [])
+    ≡ refused 3 ∷ refused 4 ∷ refused 4 ∷ []
+unfolding stateOf
+leftJudgedLast = refl
+
+-- a month whose last opened day had none left opens no other; the next month begins with any left
+pub nextMonth :
+    answersAfter aBook (cornDay (on 2024 6 28 0) flat) (opening (on 2024 6 29 0) ∷ opening (on 2024 7 1 22) ∷ [])
+    ≡ refused 16 ∷ openedAnew ∷ []
+unfolding stateOf
+nextMonth = refl
+
+-- the same month of another year is another month
+pub anotherYear : answersAfter aBook ended3 (opening (on 2025 6 3 18) ∷ []) ≡ openedAnew ∷ []
+unfolding stateOf
+anotherYear = refl
+
+-- the last opened day counts, and neither one before it nor a refused one
+pub lastOpenedCounts :
+    answersAfter aBook (ended3 ++ cornDay june5 flat)
+    (opening (on 2024 6 6 17) ∷ opening (on 2024 6 7 16) ∷ opening (on 2024 6 7 15) ∷ [])
+    ≡ refused 16 ∷ refused 16 ∷ openedAnew ∷ []
+unfolding stateOf
+lastOpenedCounts = refl
 
 -- ---- sheet: 2 5 11 6 7 8 9 10
 abbrev open4 : List Call

@@ -8,7 +8,7 @@ use lib.ListN.{length}
 use Rattle.grain.specs.Amounts.{expandedOf, seasonOf}
 use Rattle.grain.specs.Dates.{isDate, daysRemaining, seasonNumber}
 use Rattle.grain.specs.Refusals.{noSuchDate}
-use Rattle.record.specs.Refusals.{Test, when, wrongPhase, notLater}
+use Rattle.record.specs.Refusals.{Test, when, wrongPhase, notLater, leftNotSmaller}
 use Rattle.record.specs.State.{Day, Product, Group, Common, monthOf}
 
 -- a date, with left at most the days remaining in its month
@@ -22,12 +22,21 @@ abbrev pub isNotLater : Option Day → Day → Bool
 isNotLater none d = false
 isNotLater (some before) d = leb (dateNumber d) (dateNumber before)
 
+abbrev pub isSameMonth : Day → Day → Bool
+isSameMonth before d = eqb (d .year) (before .year) && eqb (d .month) (before .month)
+
+-- in the month of the last opened day, with a left that has not fallen since
+abbrev pub isLeftNotSmaller : Option Day → Day → Bool
+isLeftNotSmaller none d = false
+isLeftNotSmaller (some before) d = isSameMonth before d && leb (before .left) (d .left)
+
 -- the refusals after 1, in their order
 unfoldable pub openingTests : Common → Day → List Test
 openingTests c d =
     when (c .isOpen) wrongPhase
     ∷ when (not (isTrueDay d)) noSuchDate
     ∷ when (isNotLater (c .opened) d) notLater
+    ∷ when (isLeftNotSmaller (c .opened) d) leftNotSmaller
     ∷ []
 
 abbrev pub seasonOn : Day → ℕ

@@ -37,6 +37,10 @@ sheetOutstanding = 12
 abbrev pub notListed : ℕ
 notListed = 14
 
+-- left not smaller than at the previous opening of that month
+abbrev pub leftNotSmaller : ℕ
+leftNotSmaller = 16
+
 -- A test with the number that is returned where it applies.
 pub record Test : Type 0 where
   pub applies : Bool

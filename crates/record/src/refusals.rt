@@ -16,3 +16,5 @@ pub const ALREADY_IN: u32 = 11;
 pub const SHEET_OUTSTANDING: u32 = 12;
 
 pub const NOT_LISTED: u32 = 14;
+
+pub const LEFT_NOT_SMALLER: u32 = 16;

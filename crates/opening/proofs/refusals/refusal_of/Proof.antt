@@ -53,12 +53,24 @@ returns-4 c =
     let a = k .before .before .before .args in
     rw (sound-opening (a .b) (a .d) (sound (k .before)), k .if2 .left, true-day t, sym (c .before .is-not-later .ensures) ∙ c .if4 .taken)
 
+is-left-not-smaller-requires : tie.Need-is-left-not-smaller-requires
+is-left-not-smaller-requires c κs = search needs
+
 returns-5 : tie.Need-returns-5
 returns-5 c =
-    let t = c .before .before .before in
+    let l = c .before .before in
+    let t = l .before .before .before in
     let k = t .before .before in
     let a = k .before .before .before .args in
-    rw (sound-opening (a .b) (a .d) (sound (k .before)), k .if2 .left, true-day t, sym (c .before .is-not-later .ensures) ∙ c .if4 .left)
+    rw (sound-opening (a .b) (a .d) (sound (k .before)), k .if2 .left, true-day t, sym (l .before .is-not-later .ensures) ∙ l .if4 .left, sym (c .before .is-left-not-smaller .ensures) ∙ c .if5 .taken)
+
+returns-6 : tie.Need-returns-6
+returns-6 c =
+    let l = c .before .before in
+    let t = l .before .before .before in
+    let k = t .before .before in
+    let a = k .before .before .before .args in
+    rw (sound-opening (a .b) (a .d) (sound (k .before)), k .if2 .left, true-day t, sym (l .before .is-not-later .ensures) ∙ l .if4 .left, sym (c .before .is-left-not-smaller .ensures) ∙ c .if5 .left)
 
 pub refusal-of-spec : {M : Type 1} → statement M
 refusal-of-spec =
@@ -71,4 +83,6 @@ refusal-of-spec =
     returns-3
     is-not-later-requires
     returns-4
-    returns-5)
+    is-left-not-smaller-requires
+    returns-5
+    returns-6)
