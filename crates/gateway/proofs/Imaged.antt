@@ -149,9 +149,12 @@ whole-images =
       neverUnsound = never-unsound;
       oneLevel = λ s cs vs z run. agrees.one-level s cs (bookIn z) (contents-are s cs vs z run);
       coupled = λ s cs vs z run. agrees.coupled s cs (bookIn z) (contents-are s cs vs z run);
+      resent = λ s cs vs z run p size month price. resends s cs vs z run p size month price _ refl;
+      staysFree =
+          λ s cs ds us vs y z one other.
+          agrees.stays-free s (fit s cs us y one) cs ds (bookIn y) (bookIn z) (contents-are s cs us y one) (contents-are s _ vs z other);
       sameDay = same-day;
       sameGroup = same-group;
-      resent = λ s cs vs z run p size month price. resends s cs vs z run p size month price _ refl;
       sameSpans = λ s g cs ds us vs y z one other same p size month price e. ap withSpan (same-answers s g cs ds us vs y z one other same p size month price e);
       sameChecks = λ s g cs ds us vs y z one other same p size month price e. ap answerNumber (same-answers s g cs ds us vs y z one other same p size month price e);
     }

@@ -3,12 +3,13 @@
 use Prim.Native.Nat.{ℕ, _<_}
 use mathlib.Core.Path.{_≡_}
 use mathlib.Core.Bool.{true, false, not}
-use mathlib.Core.List.{List, [], _∷_}
+use mathlib.Core.List.{List, [], _∷_, _++_}
 use lib.Dec.{eqb}
 use Rattle.grain.specs.Lists.{every}
 use Rattle.grain.specs.Check.{isWithin}
 use Rattle.grain.specs.Bare.{within}
 use Rattle.grain.specs.declared.check.Verdict.{Verdict}
+use Rattle.grain.specs.declared.check.Verdict.the-variants.{Free}
 use Rattle.record.specs.Refusals.{unsound}
 use Rattle.record.specs.State.{groupOf, groupAt}
 use Rattle.record.specs.Founding.{Start, founded}
@@ -86,6 +87,11 @@ pub record WholeImages : Type 0 where
   pub resent : (s : Start) (cs : List Call) (vs : List Seen) (z : List ℕ) → ImageRun s cs vs z
       → (p size month price : ℕ) → 0 < imageSpan z p size month price .lowest
       → ResentImage z p size month (imageSpan z p size month price)
+  -- a contract month that a check found free is free in every later check that is answered, of any product and price
+  pub staysFree :
+      (s : Start) (cs ds : List Call) (us vs : List Seen) (y z : List ℕ) → ImageRun s cs us y → ImageRun s (cs ++ ds) vs z
+      → (p q i j month x w : ℕ) (v : Verdict)
+      → answerTo y (check p i month x) ≡ checked Free → answerTo z (check q j month w) ≡ checked v → v ≡ Free
   -- two lists with the same founding limits that agree on the accepted openings and ends and on one group's sheets of each day:
   -- the same day is open after both, or none
   pub sameDay :

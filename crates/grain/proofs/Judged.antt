@@ -1,8 +1,8 @@
--- When a price is within, below and above, by the sums that the code takes; and what a verdict that is not free says and carries.
+-- When a price is within, below and above, by the sums that the code takes; what a verdict that is not free says and carries, and which is free.
 use Prim.Native.Nat.{ℕ, _+_, _<_, _≤_}
-use mathlib.Core.Path.{_≡_, refl}
+use mathlib.Core.Path.{_≡_, refl, ap, sym, _∙_}
 use mathlib.Core.Bool.{Bool, true, false, cond}
-use mathlib.Core.Option.{some}
+use mathlib.Core.Option.{Option, some, none}
 use native.Mathlib.Omega.{arith}
 use lib.Dec.{leb, ltb}
 use borrow.Author.Tests.{lt-leb, le-leb, lt-ltb, le-ltb}
@@ -55,6 +55,12 @@ module _ (tick settlement limit price : ℕ) where
   pub is-free : verdict true tick settlement limit price ≡ Free
   unfolding verdict
   is-free = refl
+
+-- only a spot contract is free
+pub free-only : (spot : Bool) (tick settlement limit price : ℕ) → verdict spot tick settlement limit price ≡ Free → spot ≡ true
+free-only true tick settlement limit price e = refl
+free-only false tick settlement limit price e =
+    let z : _≡_ {A = Option Span} (some _) none = sym (limited-span tick settlement limit price) ∙ ap spanIn e in cc
 
 -- of the verdicts with a span one is within
 pub within-only : (v : Verdict) (s : Span) → isWithin v ≡ true → spanIn v ≡ some s → v ≡ Within s

@@ -14,6 +14,7 @@ pub mod Rounded
 pub mod Rounding
 pub mod Scans
 pub mod Spanned
+pub mod Spots
 pub mod SpanCases
 pub mod Sums
 pub mod Tests

@@ -2,11 +2,12 @@
 use Prim.Native.Nat.{ℕ, _<_}
 use mathlib.Core.Path.{_≡_, ap, sym, _∙_}
 use mathlib.Core.Bool.{true}
-use mathlib.Core.List.{List}
+use mathlib.Core.List.{List, _++_}
 use mathlib.Core.Option.{some}
 use Rattle.grain.specs.Check.{spanIn, isWithin}
 use Rattle.grain.specs.declared.check.Span.{Span}
 use Rattle.grain.specs.declared.check.Verdict.{Verdict}
+use Rattle.grain.specs.declared.check.Verdict.the-variants.{Free}
 use Rattle.record.specs.State.{Product, Group, Record, groupOf, groupAt}
 use Rattle.record.specs.Founding.{Start, isFitStart}
 use Rattle.record.specs.Record.{Call, check, Answer, checked, respond}
@@ -68,6 +69,12 @@ module _ (s : Start) (cs : List Call) (z : Book) (is : view z ≡ after s cs) wh
       → spanIn v ≡ some allowed → Resent (view z) p size month allowed
   resent p size month price v allowed e has =
       rw is (theorems .resent s cs p size month price v allowed (answered p size month price ∙ e) has)
+
+-- ---- a book, and one after further calls
+pub stays-free : (s : Start) → isFitStart s ≡ true → (cs ds : List Call) (y z : Book) → view y ≡ after s cs → view z ≡ after s (cs ++ ds)
+    → (p q i j month x w : ℕ) (v : Verdict) → answerIn y p i month x ≡ checked Free → answerIn z q j month w ≡ checked v → v ≡ Free
+stays-free s fit cs ds y z one other p q i j month x w v e h =
+    theorems .staysFree s fit cs ds p q i j month x w v (answered s cs y one p i month x ∙ e) (answered s (cs ++ ds) z other q j month w ∙ h)
 
 -- ---- two books
 module _ (s : Start) (g : ℕ) (cs ds : List Call) (y z : Book) (one : view y ≡ after s cs) (other : view z ≡ after s ds)

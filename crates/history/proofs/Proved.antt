@@ -2,7 +2,7 @@
 use Prim.Native.Nat.{ℕ}
 use mathlib.Core.Path.{_≡_, refl, ap, sym, _∙_}
 use mathlib.Core.Bool.{true, not}
-use mathlib.Core.List.{List}
+use mathlib.Core.List.{List, _++_}
 use Rattle.grain.specs.Lists.{every}
 use Rattle.grain.specs.Check.{isWithin}
 use Rattle.grain.specs.declared.check.Verdict.{Verdict}
@@ -51,6 +51,12 @@ coupled : (s : Start) (cs : List Call) (rs : List Answer) (z : Book) → Run s c
 coupled s cs rs z run p q i j m n x y v w e a b h k =
     agrees.coupled s cs z (contents-are s cs rs z run) p q i j m n x y v w e a b (sym (h .answer)) (sym (k .answer))
 
+stays-free : (s : Start) (cs ds : List Call) (rs ts : List Answer) (y z : Book) → Run s cs rs y → Run s (cs ++ ds) ts z
+    → (p q i j month x w : ℕ) (v : Verdict) → Checks y p i month x (Is Free) → Checks z q j month w (Is v) → v ≡ Free
+stays-free s cs ds rs ts y z one other p q i j month x w v h k =
+    agrees.stays-free s (fit s cs rs y one) cs ds y z (contents-are s cs rs y one) (contents-are s (cs ++ ds) ts z other) p q i j month x w v
+    (sym (h .answer)) (sym (k .answer))
+
 -- ---- two lists
 uncheck : Answer → Checked
 uncheck (refused n) = Refused n
@@ -93,6 +99,7 @@ whole-history =
       resent =
           λ s cs rs z run p size month price v allowed h.
           agrees.resent s cs z (contents-are s cs rs z run) p size month price v allowed (sym (h .answer));
+      staysFree = stays-free;
       sameDay = same-day;
       sameGroup = same-group;
       sameChecks = same-checks;

@@ -2,12 +2,13 @@
 use Prim.Native.Nat.{ℕ, _<_}
 use mathlib.Core.Path.{_≡_}
 use mathlib.Core.Bool.{true, not}
-use mathlib.Core.List.{List}
+use mathlib.Core.List.{List, _++_}
 use mathlib.Core.Option.{some}
 use Rattle.grain.specs.Lists.{every}
 use Rattle.grain.specs.Check.{spanIn, isWithin}
 use Rattle.grain.specs.declared.check.Span.{Span}
 use Rattle.grain.specs.declared.check.Verdict.{Verdict}
+use Rattle.grain.specs.declared.check.Verdict.the-variants.{Free}
 use Rattle.record.specs.Refusals.{unsound}
 use Rattle.record.specs.State.{Record, groupOf, groupAt, productIn}
 use Rattle.record.specs.Founding.{Start, founded}
@@ -71,6 +72,10 @@ pub record WholeHistory : Type 0 where
       (s : Start) (cs : List Call) (rs : List Answer) (z : Book) → Run s cs rs z
       → (p size month price : ℕ) (v : Verdict) (allowed : Span) → Checks z p size month price (Is v) → spanIn v ≡ some allowed
       → Resent (view z) p size month allowed
+  -- a contract month that a check found free is free in every later check that is answered, of any product and price
+  pub staysFree :
+      (s : Start) (cs ds : List Call) (rs ts : List Answer) (y z : Book) → Run s cs rs y → Run s (cs ++ ds) ts z
+      → (p q i j month x w : ℕ) (v : Verdict) → Checks y p i month x (Is Free) → Checks z q j month w (Is v) → v ≡ Free
   -- two lists with the same founding limits that agree on the accepted openings and ends and on one group's sheets of each day:
   -- the same day is open after both, or none
   pub sameDay :

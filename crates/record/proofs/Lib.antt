@@ -16,6 +16,7 @@ pub mod SoundCalls
 pub mod Settled
 pub mod Resending
 pub mod StaysSound
+pub mod StaysFree
 pub mod Proved
 pub mod Examples
 pub mod Marked

@@ -14,6 +14,7 @@ use Rattle.record.proofs.Independence.{same-day, same-group}
 use Rattle.record.proofs.Coupled.{one-level, coupled}
 use Rattle.record.proofs.Resending.{resent}
 use Rattle.record.proofs.StaysSound.{founded-sound, always-sound, never-unsound}
+use Rattle.record.proofs.StaysFree.{stays-free}
 
 -- a check on a sound Record reads what is common and the product's group
 check-reads : (r t : Record) (p size month price : ℕ) → isSound r ≡ true → isSound t ≡ true
@@ -41,6 +42,7 @@ theorems =
       oneLevel = λ s cs. one-level (after s cs);
       coupled = λ s cs. coupled (after s cs);
       resent = λ s cs. resent (after s cs);
+      staysFree = stays-free;
       sameDay = same-day;
       sameGroup = same-group;
       sameChecks = same-checks;

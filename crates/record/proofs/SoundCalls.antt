@@ -27,7 +27,7 @@ pub record Facts (r : Record) : Type 0 where
   pub resting : r .common .isOpen || everyProduct hasNoSheetIn (r .groups) ≡ true
   pub lasts : (isSome (r .common .opened) and everyProduct hasLast (r .groups)) || everyProduct hasNoLast (r .groups) ≡ true
 
-facts : (r : Record) → isSound r ≡ true → Facts r
+pub facts : (r : Record) → isSound r ≡ true → Facts r
 unfolding isSound
 facts r t =
     let t₃ = and-left _ _ t in
@@ -81,7 +81,7 @@ filed-sound r p ms ss o u f =
     }
 
 -- an open day was opened, and to close it needs nothing
-open-opened : (o : Option Day) (b : Bool) → isSoundCommon (record { opened = o; isOpen = b }) ≡ true → b ≡ true → isSome o ≡ true
+pub open-opened : (o : Option Day) (b : Bool) → isSoundCommon (record { opened = o; isOpen = b }) ≡ true → b ≡ true → isSome o ≡ true
 unfolding isSoundCommon
 open-opened none true t e = t
 open-opened none false t e = e

@@ -2,14 +2,14 @@
 use Prim.Native.Nat.{ℕ, _<_, _≤_}
 use mathlib.Core.Path.{_≡_}
 use mathlib.Core.Bool.{Bool, true, false, not, _&&_}
-use mathlib.Core.List.{List}
+use mathlib.Core.List.{List, _++_}
 use mathlib.Core.Option.{some}
 use lib.Dec.{leb, eqb}
 use Rattle.grain.specs.Lists.{every, distance}
 use Rattle.grain.specs.Check.{spanIn, isWithin}
 use Rattle.grain.specs.declared.check.Span.{Span}
 use Rattle.grain.specs.declared.check.Verdict.{Verdict}
-use Rattle.grain.specs.declared.check.Verdict.the-variants.{Within}
+use Rattle.grain.specs.declared.check.Verdict.the-variants.{Free, Within}
 use Rattle.record.specs.Refusals.{unsound}
 use Rattle.record.specs.State.{Level, Record, dayOf, tradeDate, isSpotOn, groupOf, groupAt, productIn, limitAt, todaysLimit, sheetOr}
 use Rattle.record.specs.Founding.{Start, isFitStart, founded}
@@ -94,6 +94,11 @@ pub record Theorems : Type 0 where
   pub resent :
       (s : Start) (cs : List Call) (p size month price : ℕ) (v : Verdict) (allowed : Span)
       → checkAfter s cs p size month price ≡ checked v → spanIn v ≡ some allowed → Resent (after s cs) p size month allowed
+  -- a contract month that a check found free is free in every later check that is answered, of any product and price: the left falls
+  -- within a month, so that a month once spot stays so
+  pub staysFree :
+      (s : Start) → isFitStart s ≡ true → (cs ds : List Call) (p q i j month x y : ℕ) (v : Verdict)
+      → checkAfter s cs p i month x ≡ checked Free → checkAfter s (cs ++ ds) q j month y ≡ checked v → v ≡ Free
   -- two lists with the same openings and ends accepted and the same sheets of one group on each day: the same day is open after both, or none
   pub sameDay :
       (s : Start) (g : ℕ) (cs ds : List Call) → SameFor g (historyOf s cs) (historyOf s ds)
