@@ -80,15 +80,17 @@ fn first_of_seeds<T>(draw: impl Fn(&mut Random) -> Option<T>) -> T {
     drawn.next().expect("a seed reaches it")
 }
 
-/// Lives until windows and sheets are full and a group is marked; with the place of the next day.
+/// Lives through weekdays until windows and sheets are full and a group is marked; with the place of the next.
 fn live(random: &mut Random, fresh: &Book, first: usize) -> Option<(Book, usize)> {
     let mut book = fresh.clone();
-    for day in first..first + LONGEST_LIFE {
+    let mut day = first;
+    for _ in 0..LONGEST_LIFE {
         if is_full(&book) {
             return Some((book, day));
         }
         book = filed(random, &opened(&book, day), 8);
         book.end().expect("all sheets are in");
+        day = calendar().next_weekday(day);
     }
     None
 }

@@ -46,7 +46,7 @@ fn next_day(random: &mut Random, book: &Book) -> [u32; 4] {
     };
     let day = day.min(calendar.last());
     let date = calendar.days[day];
-    let left = pace::left_of(random, day, true);
+    let left = pace::left_of(random, day, true, book.last_opened());
     [date.year(), date.month(), date.day(), left]
 }
 

@@ -32,7 +32,7 @@ fn book(random: &mut Random) -> Book {
     let day = random.below(calendar().days.len());
     let date = calendar().days[day];
     book.date = Some([date.year(), date.month(), date.day()]);
-    book.left = pace::left_of(random, day, true);
+    book.left = pace::left_of(random, day, true, None);
     book.is_open = random.one_in(2);
     if !random.one_in(4) {
         book.last_ended = std::array::from_fn(|product| Some(last_sheet(random, product, date)));

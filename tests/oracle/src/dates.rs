@@ -76,6 +76,11 @@ impl Date {
         self.year * 12 + self.month - 1
     }
 
+    /// Whether both dates lie in the same month of the same year.
+    pub fn is_in_month_of(self, other: Date) -> bool {
+        self.contract_month() == other.contract_month()
+    }
+
     /// Seasons run from May to October and from November to April.
     pub fn season(self) -> u32 {
         (self.contract_month() - 4) / 6
@@ -148,6 +153,13 @@ mod tests {
     fn days_remaining_are_calendar_days() {
         assert_eq!(date(20240627).days_remaining(), 3);
         assert_eq!(date(20240229).days_remaining(), 0);
+    }
+
+    #[test]
+    fn a_month_is_of_one_year() {
+        assert!(date(20240601).is_in_month_of(date(20240630)));
+        assert!(!date(20240630).is_in_month_of(date(20240701)));
+        assert!(!date(20240630).is_in_month_of(date(20250630)));
     }
 
     #[test]

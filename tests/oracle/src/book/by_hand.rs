@@ -66,9 +66,9 @@ impl Trial {
         trial
     }
 
-    /// Opens the next day with ten business days left.
+    /// Opens the next day, weekends included, with June's calendar days remaining as left.
     pub fn open(&mut self) {
-        self.open_with(10);
+        self.open_with(30 - self.next_day);
     }
 
     pub fn open_with(&mut self, left: u32) {

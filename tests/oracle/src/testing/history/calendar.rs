@@ -37,6 +37,19 @@ impl Calendar {
         self.days.len() - 1
     }
 
+    /// The next Monday to Friday, which may lie past the end.
+    pub fn next_weekday(&self, place: usize) -> usize {
+        let mut later = place + 1..;
+        later
+            .find(|&later| is_weekday(later))
+            .expect("a week has weekdays")
+    }
+
+    /// The first of the next month, which may lie past the end.
+    pub fn next_month(&self, place: usize) -> usize {
+        place + self.days[place].days_remaining() as usize + 1
+    }
+
     /// The place of a true date.
     pub fn place(&self, year: u32, month: u32, day: u32) -> usize {
         let date = Date::new(year, month, day).expect("a true date");
@@ -55,5 +68,27 @@ mod tests {
         assert_eq!(calendar.left[calendar.place(2024, 6, 26)], 2);
         assert_eq!(calendar.left[calendar.place(2024, 6, 30)], 0);
         assert_eq!(calendar.days.len(), 36_160);
+    }
+
+    #[test]
+    fn the_day_after_a_friday_is_a_monday() {
+        let calendar = calendar();
+        let june = |day| calendar.place(2024, 6, day);
+        assert_eq!(calendar.next_weekday(june(27)), june(28));
+        assert_eq!(calendar.next_weekday(june(28)), june(30) + 1);
+        assert_eq!(calendar.next_weekday(june(29)), june(30) + 1);
+        assert_eq!(calendar.next_month(june(1)), june(30) + 1);
+        assert_eq!(calendar.next_month(june(30)), june(30) + 1);
+    }
+
+    #[test]
+    fn left_falls_from_any_day_to_the_next_weekday_of_its_month() {
+        let calendar = calendar();
+        for place in 0..calendar.last() {
+            let next = calendar.next_weekday(place);
+            if next < calendar.next_month(place) {
+                assert!(calendar.left[next] < calendar.left[place], "{place}");
+            }
+        }
     }
 }

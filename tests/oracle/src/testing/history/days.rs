@@ -40,9 +40,8 @@ pub fn days(checks: usize, count: usize) -> Vec<u8> {
         book: None,
     };
     course.call(Call::Found(LIMITS));
-    let calendar = calendar();
-    for (&date, &left) in calendar.days.iter().zip(&calendar.left).take(count) {
-        course.day(date, left, checks);
+    for &date in calendar().days.iter().take(count) {
+        course.day(date, checks);
     }
     course.text
 }
@@ -74,7 +73,9 @@ impl Course {
         self.book.as_ref().expect("a book was founded")
     }
 
-    fn day(&mut self, date: Date, left: u32, checks: usize) {
+    /// Weekends are opened too, so left is the calendar days remaining, which fall every day.
+    fn day(&mut self, date: Date, checks: usize) {
+        let left = date.days_remaining();
         self.call(Call::Open([date.year(), date.month(), date.day(), left]));
         let book = self.book.as_ref().expect("a book was founded");
         let sheets = self.market.draft_all(&mut self.random, book);

@@ -94,9 +94,7 @@ impl Scenario {
 
     fn day(&mut self) {
         self.stray_while_closed();
-        let left = pace::left_of(&mut self.random, self.today, self.temper.has_strange_left);
-        let date = calendar().days[self.today];
-        let next = [date.year(), date.month(), date.day(), left];
+        let next = self.next_opening();
         if self.takes_chance() {
             let book = self.writer.book();
             let call = stray::false_opening(&mut self.random, book, next);
@@ -113,8 +111,24 @@ impl Scenario {
         if self.random.one_in(12) {
             self.call(Call::Book);
         }
-        let next = pace::next_day(&mut self.random, self.temper.pace, self.today, self.ended);
-        match next {
+        self.turn_day(next[3]);
+    }
+
+    fn next_opening(&mut self) -> [u32; 4] {
+        let date = calendar().days[self.today];
+        let left = pace::left_of(
+            &mut self.random,
+            self.today,
+            self.temper.has_strange_left,
+            self.writer.book().last_opened(),
+        );
+        [date.year(), date.month(), date.day(), left]
+    }
+
+    /// On to the next day, or to another book.
+    fn turn_day(&mut self, left: u32) {
+        let today = (self.today, left);
+        match pace::next_day(&mut self.random, self.temper.pace, today, self.ended) {
             Some(next) if !self.random.one_in(300) => self.today = next,
             _ => self.found_afresh(),
         }

@@ -72,7 +72,8 @@ impl Pair {
                 side.day(self.group, &agreed, ended < DAYS);
             }
             let pace = self.sides[0].temper.pace;
-            match pace::next_day(random, pace, today, ended) {
+            let left = agreed.opening[3];
+            match pace::next_day(random, pace, (today, left), ended) {
                 Some(next) => today = next,
                 None => return,
             }
@@ -83,7 +84,8 @@ impl Pair {
     fn agree(&self, random: &mut Random, today: usize) -> Agreed {
         let side = &self.sides[0];
         let date = calendar().days[today];
-        let left = pace::left_of(random, today, side.temper.has_strange_left);
+        let last = side.book.as_ref().and_then(Book::last_opened);
+        let left = pace::left_of(random, today, side.temper.has_strange_left, last);
         let opening = [date.year(), date.month(), date.day(), left];
         let mut book = side.book.clone();
         answer::answer(&mut book, &Call::Open(opening));
@@ -320,7 +322,7 @@ mod tests {
         let pair = pair(0, 3);
         let outputs = pair.sides.each_ref().map(|side| answers(&side.text));
         let text = String::from_utf8(outputs[1].clone()).expect("answers are text");
-        let other = text.replace("left=1 level=0", "left=1 level=1");
+        let other = text.replacen(" level=0", " level=1", 1);
         assert_ne!(text, other);
         assert!(pair.difference([&outputs[0], other.as_bytes()]).is_some());
         assert!(pair.difference([&outputs[0], b""]).is_some());

@@ -46,7 +46,7 @@ fn common(random: &mut Random) -> Temper {
         pace: Pace::Uneven,
         first_day: random.below(last - 2_000),
         quiet: 3,
-        has_strange_left: true,
+        has_strange_left: random.one_in(2),
     }
 }
 
@@ -99,6 +99,8 @@ const NEVER: usize = usize::MAX;
 /// Fills the windows of these products in one season, so that the next gives them new limits.
 pub fn renew(random: &mut Random, temper: &mut Temper, products: &[usize]) {
     temper.first_day = season_start(random);
+    // A small left would cut months short, and so the windows.
+    temper.has_strange_left = false;
     temper.pace = Pace::NextSeason(random.pick(&[46, 47, 52, 60]));
     for &product in products {
         let custom = &mut temper.market.customs[product];
