@@ -6,7 +6,7 @@ use oracle::book::{Book, PRODUCT_COUNT};
 use oracle::history::call::{Call, SheetCall};
 use oracle::tally::Tally;
 use oracle::testing::history::calendar::calendar;
-use oracle::testing::history::{faults, pace, stray, temper};
+use oracle::testing::history::{false_openings, faults, pace, stray, temper};
 use oracle::testing::random::Random;
 
 /// A founding that is accepted and one that is not, then an opening, a sheet and an end.
@@ -31,7 +31,7 @@ fn founding(random: &mut Random) -> Call {
 fn opening(random: &mut Random, book: &Book) -> Call {
     let next = next_day(random, book);
     match random.one_in(3) {
-        true => stray::false_opening(random, book, next),
+        true => false_openings::draw(random, book, next),
         false => Call::Open(next),
     }
 }

@@ -4,6 +4,7 @@ pub mod calendar;
 pub mod compare;
 pub mod coverage;
 pub mod days;
+pub mod false_openings;
 pub mod faults;
 pub mod garbage;
 pub mod jobs;

@@ -5,7 +5,7 @@ use super::coverage::Coverage;
 use super::pace;
 use super::temper::{self, Temper};
 use super::writer::Writer;
-use super::{faults, stray};
+use super::{false_openings, faults, stray};
 use crate::history::call::{Call, SheetCall};
 use crate::testing::random::Random;
 
@@ -97,10 +97,11 @@ impl Scenario {
         let next = self.next_opening();
         if self.takes_chance() {
             let book = self.writer.book();
-            let call = stray::false_opening(&mut self.random, book, next);
+            let call = false_openings::draw(&mut self.random, book, next);
             self.call(call);
         }
-        self.call(Call::Open(next));
+        let answer = self.call(Call::Open(next));
+        assert!(answer.starts_with("opened"), "{next:?}: {answer}");
         if self.takes_chance() {
             self.call(Call::End);
         }
@@ -182,7 +183,7 @@ impl Scenario {
             0 => drop(self.call(Call::Book)),
             1 => self.call_refused(Call::End),
             2 => {
-                let call = stray::false_opening(random, book, [2050, 6, 1, 3]);
+                let call = false_openings::draw(random, book, [2050, 6, 1, 3]);
                 self.call(call);
             }
             3 | 4 => {

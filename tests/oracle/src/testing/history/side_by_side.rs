@@ -6,7 +6,7 @@ use super::pace;
 use super::temper::{self, Temper};
 use super::text;
 use super::view::{self, Kind};
-use super::{faults, stray};
+use super::{false_openings, faults, stray};
 use crate::book::{Book, GROUPS, GROUP_COUNT};
 use crate::history::answer;
 use crate::history::call::{Call, SheetCall};
@@ -225,7 +225,7 @@ impl Side {
         let calls = [
             Call::End,
             Call::Check(stray::order(&mut self.random, book)),
-            stray::false_opening(&mut self.random, book, opening),
+            false_openings::draw(&mut self.random, book, opening),
             Call::Found(stray::unfit_limits(&mut self.random)),
         ];
         for call in calls {

@@ -1,4 +1,4 @@
-//! Calls beside the course of the day: checks, bare checks, false openings, lines that are no call.
+//! Calls beside the course of the day: checks, bare checks, lines that are no call.
 
 use super::market::at_an_edge;
 use crate::amounts::LARGEST_LIMIT;
@@ -36,35 +36,6 @@ pub fn unfit_limits(random: &mut Random) -> [u32; 8] {
         limits[product] = random.pick(&choices);
     }
     limits
-}
-
-/// An opening that is false by its date, by its left, or by coming too late.
-pub fn false_opening(random: &mut Random, book: &Book, next: [u32; 4]) -> Call {
-    let [year, month, day, left] = next;
-    let last = book.date.unwrap_or([2000, 1, 1]);
-    let common_year = 4 * (year / 4).clamp(500, 523) + 1;
-    let [last_year, last_month, last_day] = last;
-    Call::Open(match random.below(9) {
-        0 => [year, month, day, random.pick(&[31, 32, u32::MAX])],
-        1 => [year, random.pick(&[0, 13, u32::MAX]), day, left],
-        2 => [year, month, random.pick(&[0, 32, u32::MAX]), left],
-        3 => [common_year, 2, 29, 0],
-        4 => [
-            random.pick(&[0, 1999, 2099, 2100, u32::MAX]),
-            month,
-            day,
-            left,
-        ],
-        5 => [last_year, last_month, last_day, 0],
-        6 => [last_year.max(2001) - 1, last_month, last_day.min(28), 0],
-        7 => [last_year, last_month, last_day, 31],
-        _ => [
-            random.pick(&[2023, 2024, 2025]),
-            random.pick(&[4, 6, 9, 11]),
-            31,
-            0,
-        ],
-    })
 }
 
 /// Whether a book refuses a call.

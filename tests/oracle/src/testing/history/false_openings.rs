@@ -1,0 +1,71 @@
+//! Openings that a book refuses, by themselves or by its last opened day.
+
+use crate::book::Book;
+use crate::dates::Date;
+use crate::history::call::Call;
+use crate::testing::random::Random;
+
+/// More than the days remaining after any day.
+const TOO_LARGE: u32 = 31;
+
+/// A false opening, for a book whose next day could be opened as it is given.
+pub fn draw(random: &mut Random, book: &Book, next: [u32; 4]) -> Call {
+    Call::Open(match book.last_opened() {
+        Some((date, _)) if random.one_in(2) => after(random, date),
+        _ => false_by_itself(random, next),
+    })
+}
+
+/// By its date, or by a left above the days remaining.
+fn false_by_itself(random: &mut Random, [year, month, day, left]: [u32; 4]) -> [u32; 4] {
+    let common_year = 4 * (year / 4).clamp(500, 523) + 1;
+    let false_year = random.pick(&[0, 1999, 2099, 2100, u32::MAX]);
+    match random.below(6) {
+        0 => [year, month, day, random.pick(&[TOO_LARGE, 32, u32::MAX])],
+        1 => [year, random.pick(&[0, 13, u32::MAX]), day, left],
+        2 => [year, month, random.pick(&[0, 32, u32::MAX]), left],
+        3 => [common_year, 2, 29, 0],
+        4 => [false_year, month, day, left],
+        _ => {
+            let month = random.pick(&[4, 6, 9, 11]);
+            [random.pick(&[2023, 2024, 2025]), month, 31, 0]
+        }
+    }
+}
+
+/// Not later than the last opened day.
+fn after(random: &mut Random, last: Date) -> [u32; 4] {
+    let [year, month, day] = [last.year(), last.month(), last.day()];
+    match random.below(3) {
+        0 => [year, month, day, 0],
+        1 => [year, month, day, TOO_LARGE],
+        _ => [year.max(2001) - 1, month, day.min(28), 0],
+    }
+}
+
+#[cfg(test)]
+mod tests {
+    use super::*;
+    use crate::testing::history::calendar::calendar;
+    use crate::testing::history::stray::is_refused;
+
+    const LIMITS: [u32; 8] = [200, 400, 200, 200, 240, 240, 160, 100];
+
+    #[test]
+    fn every_one_is_refused() {
+        let mut random = Random::new(4);
+        let fresh = Book::found(LIMITS).expect("fit limits");
+        for date in calendar().days.iter().step_by(3) {
+            let mut book = fresh.clone();
+            let [year, month, day] = [date.year(), date.month(), date.day()];
+            let left = random.between(0, date.days_remaining());
+            let next = [year, month, day, left];
+            let call = draw(&mut random, &book, next);
+            assert!(is_refused(&Some(book.clone()), &call), "{call:?}");
+            book.date = Some([year, month, day]);
+            book.left = left;
+            let call = draw(&mut random, &book, next);
+            assert!(is_refused(&Some(book), &call), "{call:?} after {next:?}");
+        }
+    }
+}
