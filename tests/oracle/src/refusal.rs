@@ -30,6 +30,8 @@ pub enum Refusal {
     Amount = 13,
     /// The month is not on the last ended sheet, or before the open day's month.
     NotListed = 14,
+    /// Left is not smaller than at the previous opening of that month.
+    NotSmaller = 16,
 }
 
 impl Refusal {

@@ -10,7 +10,7 @@ use crate::refusal::Refusal;
 pub type NewLimits = [bool; PRODUCT_COUNT];
 
 impl Book {
-    /// Opens a day, or gives the first refusal in the order 1, 2, 3, 4.
+    /// Opens a day, or gives the first refusal in the order 1, 2, 3, 4, 16.
     pub fn open(
         &mut self,
         year: u32,
@@ -28,12 +28,15 @@ impl Book {
         if left > date.days_remaining() {
             return Err(Refusal::Date);
         }
-        let last = self.last_opened().map(|(last, _)| last);
-        if last.is_some_and(|last| date <= last) {
+        let last = self.last_opened();
+        if last.is_some_and(|(last, _)| date <= last) {
             return Err(Refusal::NotLater);
         }
+        if last.is_some_and(|(last, before)| date.is_in_month_of(last) && left >= before) {
+            return Err(Refusal::NotSmaller);
+        }
         let renewed = match last {
-            Some(last) => self.turn_season(last.season(), date.season()),
+            Some((last, _)) => self.turn_season(last.season(), date.season()),
             None => [false; PRODUCT_COUNT],
         };
         self.is_open = true;
@@ -70,11 +73,12 @@ impl Book {
 
 #[cfg(test)]
 mod tests {
+    use super::super::by_hand::{Trial, LIMITS};
     use super::super::{Level, Standing};
     use super::*;
 
     fn fresh() -> Book {
-        Book::found([200, 400, 200, 200, 240, 240, 160, 100]).expect("fit limits")
+        Book::found(LIMITS).expect("fit limits")
     }
 
     /// A book whose last day was this one, with `days` settlements of 6,000 in Corn's window.
@@ -83,6 +87,14 @@ mod tests {
         book.date = Some(date);
         book.windows[0] = vec![6_000; days];
         book.windows[7] = vec![3_000; 44];
+        book
+    }
+
+    /// A book whose last day was this one, with so many business days left.
+    fn closed_with(date: [u32; 3], left: u32) -> Book {
+        let mut book = fresh();
+        book.date = Some(date);
+        book.left = left;
         book
     }
 
@@ -113,6 +125,82 @@ mod tests {
         assert_eq!(book.open(2024, 2, 27, 2), Err(Refusal::NotLater));
         assert_eq!(book.open(2023, 12, 31, 0), Err(Refusal::NotLater));
         assert_eq!(book.open(2024, 2, 29, 0), Ok([false; 8]));
+    }
+
+    #[test]
+    fn left_falls_within_a_month() {
+        for (left, answer) in [
+            (3, Err(Refusal::NotSmaller)),
+            (2, Err(Refusal::NotSmaller)),
+            (1, Ok([false; 8])),
+            (0, Ok([false; 8])),
+        ] {
+            let mut book = closed_with([2024, 6, 26], 2);
+            let before = book.clone();
+            assert_eq!(book.open(2024, 6, 27, left), answer, "{left}");
+            assert_eq!(book == before, answer.is_err(), "{left}");
+        }
+    }
+
+    #[test]
+    fn refusal_16_comes_after_2_3_and_4() {
+        let mut book = closed_with([2024, 6, 20], 5);
+        assert_eq!(book.open(2024, 6, 26, 5), Err(Refusal::Date));
+        assert_eq!(book.open(2024, 6, 31, 5), Err(Refusal::Date));
+        assert_eq!(book.open(2024, 6, 20, 5), Err(Refusal::NotLater));
+        assert_eq!(book.open(2024, 6, 19, 6), Err(Refusal::NotLater));
+        assert_eq!(book.open(2024, 6, 21, 5), Err(Refusal::NotSmaller));
+        book.is_open = true;
+        assert_eq!(book.open(2024, 6, 21, 5), Err(Refusal::Day));
+    }
+
+    #[test]
+    fn left_is_that_of_the_last_opened_day_whatever_was_skipped() {
+        let mut book = closed_with([2024, 6, 3], 19);
+        assert_eq!(book.open(2024, 6, 11, 19), Err(Refusal::NotSmaller));
+        assert_eq!(book.open(2024, 6, 11, 18), Ok([false; 8]));
+        book.is_open = false;
+        assert_eq!(book.open(2024, 6, 12, 18), Err(Refusal::NotSmaller));
+        assert_eq!(book.open(2024, 6, 12, 0), Ok([false; 8]));
+        book.is_open = false;
+        assert_eq!(book.open(2024, 6, 30, 0), Err(Refusal::NotSmaller));
+    }
+
+    #[test]
+    fn a_left_outlives_the_end_of_its_day() {
+        let mut trial = Trial::new(LIMITS);
+        trial.next_day = 20;
+        trial.open_with(6);
+        trial.rest_of_day(&[]);
+        assert_eq!(trial.book.open(2024, 6, 21, 6), Err(Refusal::NotSmaller));
+        assert_eq!(trial.book.open(2024, 6, 21, 5), Ok([false; 8]));
+    }
+
+    #[test]
+    fn another_month_may_have_any_left() {
+        for (year, month, day, left) in [
+            (2024, 7, 1, 0),
+            (2024, 7, 1, 22),
+            (2024, 7, 31, 0),
+            (2024, 12, 2, 21),
+            (2025, 6, 2, 20),
+            (2025, 6, 30, 0),
+        ] {
+            let mut book = closed_with([2024, 6, 28], 0);
+            assert_eq!(
+                book.open(year, month, day, left),
+                Ok([false; 8]),
+                "{year}-{month}-{day} {left}"
+            );
+        }
+    }
+
+    #[test]
+    fn the_same_month_of_another_year_may_have_any_left() {
+        for left in [1, 2, 3] {
+            let mut book = closed_with([2024, 6, 26], 2);
+            assert_eq!(book.open(2025, 6, 26, left), Ok([false; 8]), "{left}");
+        }
     }
 
     #[test]
