@@ -1,4 +1,4 @@
-//! Openings that a book refuses, by themselves or by its last opened day.
+//! Openings that a book refuses, by themselves or by its last opened day and left.
 
 use crate::book::Book;
 use crate::dates::Date;
@@ -11,7 +11,7 @@ const TOO_LARGE: u32 = 31;
 /// A false opening, for a book whose next day could be opened as it is given.
 pub fn draw(random: &mut Random, book: &Book, next: [u32; 4]) -> Call {
     Call::Open(match book.last_opened() {
-        Some((date, _)) if random.one_in(2) => after(random, date),
+        Some((date, left)) if random.one_in(2) => after(random, date, left),
         _ => false_by_itself(random, next),
     })
 }
@@ -33,14 +33,39 @@ fn false_by_itself(random: &mut Random, [year, month, day, left]: [u32; 4]) -> [
     }
 }
 
-/// Not later than the last opened day.
-fn after(random: &mut Random, last: Date) -> [u32; 4] {
+/// Not later than the last opened day, or with a left that does not fall within its month.
+fn after(random: &mut Random, last: Date, left: u32) -> [u32; 4] {
     let [year, month, day] = [last.year(), last.month(), last.day()];
-    match random.below(3) {
+    match random.below(10) {
         0 => [year, month, day, 0],
-        1 => [year, month, day, TOO_LARGE],
-        _ => [year.max(2001) - 1, month, day.min(28), 0],
+        1 => [year, month, day, left],
+        2 => [year, month, day, TOO_LARGE],
+        3 => [year.max(2001) - 1, month, day.min(28), 0],
+        4 => earlier(random, last, left),
+        5 => [year, month, day + 1, TOO_LARGE],
+        _ => later(random, last, left),
     }
+}
+
+/// An earlier day of the month, unless it is the first, with at least as much left.
+fn earlier(random: &mut Random, last: Date, left: u32) -> [u32; 4] {
+    let back = random.between(0, last.day() - 1);
+    let left = random.between(left, last.days_remaining() + back);
+    [last.year(), last.month(), last.day() - back, left]
+}
+
+/// A later day of the month with at least as much left; the next day, where no day has so many remaining.
+fn later(random: &mut Random, last: Date, left: u32) -> [u32; 4] {
+    let [year, month, day] = [last.year(), last.month(), last.day()];
+    let spare = last.days_remaining() - left;
+    if spare == 0 {
+        return [year, month, day + 1, left];
+    }
+    let ahead = random.between(1, spare);
+    let most = last.days_remaining() - ahead;
+    let any = random.between(left, most);
+    let left = random.pick(&[left, left, most.min(left + 1), any]);
+    [year, month, day + ahead, left]
 }
 
 #[cfg(test)]

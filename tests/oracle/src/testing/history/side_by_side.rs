@@ -259,6 +259,7 @@ impl Side {
 mod tests {
     use super::*;
     use crate::history::replay::answers;
+    use crate::refusal::Refusal;
 
     #[test]
     fn this_implementation_keeps_groups_apart() {
@@ -314,6 +315,27 @@ mod tests {
                 let times = pairs.iter().filter(|pair| pair.contains(&wanted)).count();
                 assert!(times >= SEVERAL, "group {group}: {wanted:?} in {times}");
             }
+        }
+    }
+
+    /// How often the openings of a side were refused for a left that is not smaller.
+    fn stale_openings(side: &Side) -> usize {
+        let answers = answers(&side.text);
+        let stale = answer::refused(Refusal::NotSmaller.number());
+        let is_stale = |line: &&[u8]| *line == stale.as_bytes();
+        lines(&answers).into_iter().filter(is_stale).count()
+    }
+
+    #[test]
+    fn several_pairs_of_each_group_have_a_stale_left_on_one_side_alone() {
+        for group in 0..GROUP_COUNT {
+            let pairs = (0..PAIRS_A_GROUP).map(|seed| pair(group, seed));
+            let is_on_one = |pair: &Pair| {
+                let [first, second] = pair.sides.each_ref().map(stale_openings);
+                first != second
+            };
+            let times = pairs.filter(is_on_one).count();
+            assert!(times >= SEVERAL, "group {group}: {times}");
         }
     }
 

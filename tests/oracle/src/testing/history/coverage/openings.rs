@@ -6,17 +6,30 @@ use crate::book::{Book, Level, PRODUCT_COUNT};
 use crate::dates::Date;
 use crate::products::PRODUCTS;
 
-const WANTED: [&str; 31] = [
+const WANTED: [&str; 44] = [
     "open: refused 2",
     "open: refused 3, false date",
     "open: refused 3, 29 February",
     "open: refused 3, left above the days remaining",
     "open: refused 4, same day",
     "open: refused 4, earlier day",
+    "open: refused 16, left equal",
+    "open: refused 16, left greater",
     "open: 2 over 3",
     "open: 2 over 4",
+    "open: 2 over 16",
     "open: 3 over 4",
+    "open: 3 over 16",
+    "open: 4 over 16",
+    "open: 4 over 16, same day and left",
+    "open: 4 over 16, earlier day with a greater left",
     "open: first opening",
+    "open: left smaller by one",
+    "open: left smaller by more",
+    "open: left not smaller in another month of the year",
+    "open: left not smaller in the same month of another year",
+    "open: left 0 on the first after a month's last day",
+    "open: left above 0 on the first after a month's last day",
     "open: left is all days remaining",
     "open: left 0",
     "open: left 1",
@@ -54,45 +67,77 @@ pub fn observe(coverage: &mut Coverage, numbers: &[u32; 4], seen: &Seen) {
 }
 
 /// Every refusal in the order of the rule, and whether it applies, each judged for itself.
-fn rows(numbers: &[u32; 4], book: &Book) -> [(u32, bool); 3] {
+fn rows(numbers: &[u32; 4], book: &Book) -> [(u32, bool); 4] {
     let [year, month, day, left] = *numbers;
     let date = Date::new(year, month, day);
-    let last = book.last_opened().map(|(date, _)| date);
     // A false date is compared as its three numbers.
     let is_not_later = book.date.is_some_and(|last| [year, month, day] <= last);
+    let is_in_month = book.date.is_some_and(|last| [year, month] == last[..2]);
     let is_false = date.is_none_or(|date| left > date.days_remaining());
     [
         (2, book.is_open),
         (3, is_false),
-        (4, last.is_some() && is_not_later),
+        (4, is_not_later),
+        (16, is_in_month && left >= book.left),
     ]
 }
 
 fn observe_refused(coverage: &mut Coverage, numbers: &[u32; 4], book: &Book, refusal: u32) {
     coverage.count_over("open", refusal, &rows(numbers, book));
+    match refusal {
+        2 => coverage.count("open: refused 2"),
+        3 => observe_false(coverage, numbers),
+        4 => observe_not_later(coverage, numbers, book),
+        _ => coverage.count(match numbers[3] == book.left {
+            true => "open: refused 16, left equal",
+            false => "open: refused 16, left greater",
+        }),
+    }
+}
+
+fn observe_false(coverage: &mut Coverage, numbers: &[u32; 4]) {
     let [year, month, day, _] = *numbers;
     let is_false = Date::new(year, month, day).is_none();
-    let is_same = book.date == Some([year, month, day]);
     let is_29_february = is_false && [month, day] == [2, 29];
-    coverage.count_if(
-        refusal == 3 && is_29_february,
-        "open: refused 3, 29 February",
-    );
-    coverage.count(match (refusal, is_false, is_same) {
-        (2, _, _) => "open: refused 2",
-        (3, true, _) => "open: refused 3, false date",
-        (3, false, _) => "open: refused 3, left above the days remaining",
-        (_, _, true) => "open: refused 4, same day",
-        (_, _, false) => "open: refused 4, earlier day",
+    coverage.count_if(is_29_february, "open: refused 3, 29 February");
+    coverage.count(match is_false {
+        true => "open: refused 3, false date",
+        false => "open: refused 3, left above the days remaining",
     });
+}
+
+fn observe_not_later(coverage: &mut Coverage, numbers: &[u32; 4], book: &Book) {
+    let [year, month, day, left] = *numbers;
+    let [last_year, last_month, last_day] = book.date.expect("a day was opened");
+    let is_in_month = [year, month] == [last_year, last_month];
+    let is_same = is_in_month && day == last_day;
+    coverage.count(match is_same {
+        true => "open: refused 4, same day",
+        false => "open: refused 4, earlier day",
+    });
+    coverage.count_if(
+        is_same && left == book.left,
+        "open: 4 over 16, same day and left",
+    );
+    coverage.count_if(
+        is_in_month && !is_same && left > book.left,
+        "open: 4 over 16, earlier day with a greater left",
+    );
 }
 
 fn observe_opened(coverage: &mut Coverage, seen: &Seen) {
     let (date, left) = seen.after.last_opened().expect("a day is open");
     observe_date(coverage, date, left);
-    let Some((last, _)) = seen.before.last_opened() else {
+    let Some((last, before)) = seen.before.last_opened() else {
         return coverage.count("open: first opening");
     };
+    match date.is_in_month_of(last) {
+        true => coverage.count(match before - left {
+            1 => "open: left smaller by one",
+            _ => "open: left smaller by more",
+        }),
+        false => observe_other_month(coverage, (last, before), (date, left)),
+    }
     let seasons = date.season() - last.season();
     coverage.carried_marks = seen.before.standings.map(|one| one.marked && seasons > 0);
     if seasons == 0 {
@@ -110,6 +155,29 @@ fn observe_opened(coverage: &mut Coverage, seen: &Seen) {
             coverage.count_if(full, "season: skipped, with a full window");
         }
     }
+}
+
+/// In another month left need not be smaller.
+fn observe_other_month(
+    coverage: &mut Coverage,
+    (last, before): (Date, u32),
+    (date, left): (Date, u32),
+) {
+    if last.next() == Some(date) {
+        coverage.count(match left {
+            0 => "open: left 0 on the first after a month's last day",
+            _ => "open: left above 0 on the first after a month's last day",
+        });
+    }
+    let is_of_year = date.year() == last.year();
+    coverage.count_if(
+        left >= before && is_of_year,
+        "open: left not smaller in another month of the year",
+    );
+    coverage.count_if(
+        left >= before && !is_of_year && date.month() == last.month(),
+        "open: left not smaller in the same month of another year",
+    );
 }
 
 fn observe_date(coverage: &mut Coverage, date: Date, left: u32) {
