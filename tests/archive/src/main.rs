@@ -8,6 +8,7 @@ mod draw;
 mod fields;
 mod histories;
 mod images;
+mod lefts;
 mod memory;
 mod noise;
 mod odd;
@@ -31,6 +32,7 @@ fn main() -> ExitCode {
     let mut comparer = compare::Comparer::new();
     let bases = bases::bases();
     images::compare(&mut comparer, &bases, &mut score);
+    lefts::compare(&mut comparer, &bases, &mut score);
     arrays::compare(&mut comparer, &bases, &mut score);
     tallies::compare(&mut comparer, &bases, &mut score);
     histories::compare(Path::new(&examples), &mut score);
