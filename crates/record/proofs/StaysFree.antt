@@ -11,8 +11,8 @@ use Rattle.grain.specs.declared.check.Verdict.{Verdict}
 use Rattle.grain.specs.declared.check.Verdict.the-variants.{Free}
 use Rattle.grain.proofs.Judged.{is-free, free-only}
 use Rattle.grain.proofs.Spots.{still-spot}
-use Rattle.record.specs.Choices.{isSome}
-use Rattle.record.specs.State.{Day, Record, dayOf, monthOf, tradeDate, isSpotOn}
+use Rattle.record.specs.Choices.{isSome, orElse}
+use Rattle.record.specs.State.{Day, Record, noDay, dayOf, monthOf, tradeDate, isSpotOn}
 use Rattle.record.specs.Founding.{Start, isFitStart, founded}
 use Rattle.record.specs.Opening.{isTrueDay, dateNumber, isNotLater, isSameMonth, isLeftNotSmaller, openingTests}
 use Rattle.record.specs.Check.{judged}
@@ -92,16 +92,16 @@ after-both r [] ds = refl
 after-both r (c ∷ cs) ds = after-both (respond r c .state) cs ds
 
 -- ---- what a check says of it
-module _ (r : Record) (p size month price : ℕ) (v : Verdict) (e : respond r (check p size month price) .answer ≡ checked v) where
-  since-opened : (o : Option Day) (b : Bool) → isSome o ≡ true → spotSince o month ≡ isSpotOn (dayOf (record { opened = o; isOpen = b })) month
-  since-opened none b h = let z : _≡_ {A = Bool} false true = h in cc
-  since-opened (some d) b h = refl
+since-opened : (month : ℕ) (o : Option Day) → isSome o ≡ true → spotSince o month ≡ isSpotOn (orElse o noDay) month
+since-opened month none h = let z : _≡_ {A = Bool} false true = h in cc
+since-opened month (some d) h = refl
 
+module _ (r : Record) (p size month price : ℕ) (v : Verdict) (e : respond r (check p size month price) .answer ≡ checked v) where
   -- a check is answered on an open day
   since : spotSince (r .common .opened) month ≡ isSpotOn (dayOf (r .common)) month
   since =
       let k = passed r p size month price v e in
-      since-opened (r .common .opened) (r .common .isOpen) (open-opened _ _ (facts r (k .sound) .common) (k .isOpen))
+      since-opened month (r .common .opened) (open-opened _ _ (facts r (k .sound) .common) (k .isOpen))
 
   found-free : v ≡ Free → spotSince (r .common .opened) month ≡ true
   unfolding judged

@@ -1,11 +1,13 @@
 use borrow.Author.Needs.{needs}
 use mathlib.Core.Path.{_≡_, sym, _∙_}
 use mathlib.Core.Bool.{true}
+use mathlib.Core.List.{[], _∷_}
 use borrow.Author.Tests.{not-true, not-false}
-use Rattle.record.specs.Record.{opening}
-use Rattle.record.specs.Opening.{isTrueDay}
+use Rattle.record.specs.Refusals.{when, first, leftNotSmaller}
+use Rattle.record.specs.Record.{opening, refusal}
+use Rattle.record.specs.Opening.{isTrueDay, isLeftNotSmaller}
 use Rattle.record.specs.Sound.{isSound}
-use Rattle.book.specs.Book.{view}
+use Rattle.book.specs.Book.{openedOf, view}
 use Rattle.book.proofs.Numbered.{unsound-refusal}
 use Rattle.opening.proofs.Refused.{sound-opening}
 use Rattle.opening.proofs.TrueDays.{none-or-true}
@@ -56,21 +58,21 @@ returns-4 c =
 is-left-not-smaller-requires : tie.Need-is-left-not-smaller-requires
 is-left-not-smaller-requires c κs = search needs
 
-returns-5 : tie.Need-returns-5
-returns-5 c =
-    let l = c .before .before in
-    let t = l .before .before .before in
+-- past 4, 16 is the one test that is left
+past-four : (c : tie.Else4)
+    → let a = c .before .before .before .before .before .before .before .before .args in
+    refusal (view (a .b)) (opening (a .d)) ≡ first (when (isLeftNotSmaller (openedOf (a .b .day)) (a .d)) leftNotSmaller ∷ [])
+past-four c =
+    let t = c .before .before .before in
     let k = t .before .before in
     let a = k .before .before .before .args in
-    rw (sound-opening (a .b) (a .d) (sound (k .before)), k .if2 .left, true-day t, sym (l .before .is-not-later .ensures) ∙ l .if4 .left, sym (c .before .is-left-not-smaller .ensures) ∙ c .if5 .taken)
+    rw (sound-opening (a .b) (a .d) (sound (k .before)), k .if2 .left, true-day t, sym (c .before .is-not-later .ensures) ∙ c .if4 .left)
+
+returns-5 : tie.Need-returns-5
+returns-5 c = rw (past-four (c .before .before), sym (c .before .is-left-not-smaller .ensures) ∙ c .if5 .taken)
 
 returns-6 : tie.Need-returns-6
-returns-6 c =
-    let l = c .before .before in
-    let t = l .before .before .before in
-    let k = t .before .before in
-    let a = k .before .before .before .args in
-    rw (sound-opening (a .b) (a .d) (sound (k .before)), k .if2 .left, true-day t, sym (l .before .is-not-later .ensures) ∙ l .if4 .left, sym (c .before .is-left-not-smaller .ensures) ∙ c .if5 .left)
+returns-6 c = rw (past-four (c .before .before), sym (c .before .is-left-not-smaller .ensures) ∙ c .if5 .left)
 
 pub refusal-of-spec : {M : Type 1} → statement M
 refusal-of-spec =
