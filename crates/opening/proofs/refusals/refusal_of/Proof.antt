@@ -3,9 +3,9 @@ use mathlib.Core.Path.{_≡_, sym, _∙_}
 use mathlib.Core.Bool.{true}
 use mathlib.Core.List.{[], _∷_}
 use borrow.Author.Tests.{not-true, not-false}
-use Rattle.record.specs.Refusals.{when, first, leftNotSmaller}
+use Rattle.record.specs.Refusals.{when, first, notLater, leftNotSmaller}
 use Rattle.record.specs.Record.{opening, refusal}
-use Rattle.record.specs.Opening.{isTrueDay, isLeftNotSmaller}
+use Rattle.record.specs.Opening.{isTrueDay, isNotLater, isLeftNotSmaller}
 use Rattle.record.specs.Sound.{isSound}
 use Rattle.book.specs.Book.{openedOf, view}
 use Rattle.book.proofs.Numbered.{unsound-refusal}
@@ -48,31 +48,34 @@ is-not-later-requires c κs =
     let k = c .before .before .before in
     (none-or-true (k .before .before .before .args .b) (sound (k .before)), true-day (c .before))
 
-returns-4 : tie.Need-returns-4
-returns-4 c =
-    let t = c .before .before .before in
-    let k = t .before .before in
+-- past 3, the two tests against the last opened day are left
+past-three : (c : tie.Else3)
+    → let a = c .before .before .before .before .before .args in
+    refusal (view (a .b)) (opening (a .d))
+    ≡ first
+    (when (isNotLater (openedOf (a .b .day)) (a .d)) notLater
+    ∷ when (isLeftNotSmaller (openedOf (a .b .day)) (a .d)) leftNotSmaller
+    ∷ [])
+past-three c =
+    let k = c .before .before in
     let a = k .before .before .before .args in
-    rw (sound-opening (a .b) (a .d) (sound (k .before)), k .if2 .left, true-day t, sym (c .before .is-not-later .ensures) ∙ c .if4 .taken)
+    rw (sound-opening (a .b) (a .d) (sound (k .before)), k .if2 .left, true-day c)
+
+returns-4 : tie.Need-returns-4
+returns-4 c = rw (past-three (c .before .before .before), sym (c .before .is-not-later .ensures) ∙ c .if4 .taken)
 
 is-left-not-smaller-requires : tie.Need-is-left-not-smaller-requires
 is-left-not-smaller-requires c κs = search needs
 
--- past 4, 16 is the one test that is left
-past-four : (c : tie.Else4)
-    → let a = c .before .before .before .before .before .before .before .before .args in
-    refusal (view (a .b)) (opening (a .d)) ≡ first (when (isLeftNotSmaller (openedOf (a .b .day)) (a .d)) leftNotSmaller ∷ [])
-past-four c =
-    let t = c .before .before .before in
-    let k = t .before .before in
-    let a = k .before .before .before .args in
-    rw (sound-opening (a .b) (a .d) (sound (k .before)), k .if2 .left, true-day t, sym (c .before .is-not-later .ensures) ∙ c .if4 .left)
-
 returns-5 : tie.Need-returns-5
-returns-5 c = rw (past-four (c .before .before), sym (c .before .is-left-not-smaller .ensures) ∙ c .if5 .taken)
+returns-5 c =
+    let l = c .before .before in
+    rw (past-three (l .before .before .before), sym (l .before .is-not-later .ensures) ∙ l .if4 .left, sym (c .before .is-left-not-smaller .ensures) ∙ c .if5 .taken)
 
 returns-6 : tie.Need-returns-6
-returns-6 c = rw (past-four (c .before .before), sym (c .before .is-left-not-smaller .ensures) ∙ c .if5 .left)
+returns-6 c =
+    let l = c .before .before in
+    rw (past-three (l .before .before .before), sym (l .before .is-not-later .ensures) ∙ l .if4 .left, sym (c .before .is-left-not-smaller .ensures) ∙ c .if5 .left)
 
 pub refusal-of-spec : {M : Type 1} → statement M
 refusal-of-spec =
