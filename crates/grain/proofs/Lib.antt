@@ -2,10 +2,12 @@ pub mod Ascending
 pub mod Below
 pub mod FactsOfDates
 pub mod Columns
+pub mod DateCases
 pub mod Every
 pub mod Fits
 pub mod MarginCases
 pub mod ProductCases
+pub mod MonthLengths
 pub mod MonthSets
 pub mod OnTick
 pub mod Outcomes

@@ -6,7 +6,7 @@ use Rattle.grain.specs.Lists.{_and_, every, sum}
 use Rattle.grain.specs.Products.{steps, floors, standardTicks, tickOf}
 use Rattle.grain.specs.Prices.{isOnTick}
 use Rattle.grain.specs.Amounts.{expandedBy, seasonBy, isFit}
-use Rattle.grain.specs.Dates.{isLeap, monthLengths, monthLength, isDate, contractMonth, seasonNumber, daysRemaining}
+use Rattle.grain.specs.Dates.{isLeap, monthLength, isDate, contractMonth, seasonNumber, daysRemaining}
 use Rattle.grain.specs.Margin.{refused, gives, expandedLimitAs, expandedLimit, seasonLimitsAs, seasonLimits, dateFactsAs, dateFacts}
 use Rattle.grain.specs.declared.margin.ExpandedLimit.{ExpandedLimit}
 use Rattle.grain.specs.declared.margin.ExpandedLimit.the-variants as E
@@ -35,7 +35,7 @@ pub record MarginCases : Type 0 where
   pub noDateAnswer : (r : DateFacts) → dateFactsAs r ≡ dateFacts 2023 2 29 → r ≡ NoSuchDate
 
 pub cases : MarginCases
-unfolding expandedLimit seasonLimits dateFacts isFit floors steps expandedBy every _and_ isOnTick tickOf standardTicks seasonBy sum isDate monthLength isLeap monthLengths contractMonth seasonNumber daysRemaining
+unfolding expandedLimit seasonLimits dateFacts isFit floors steps expandedBy every _and_ isOnTick tickOf standardTicks seasonBy sum isDate monthLength isLeap contractMonth seasonNumber daysRemaining
 cases =
     record {
       noProduct = refl;

@@ -1,13 +1,12 @@
 -- What a date that is one says of its numbers.
 use Prim.Native.Nat.{ℕ, _≤_}
-use mathlib.Core.Path.{_≡_, refl}
-use mathlib.Core.Bool.{Bool, true, false, _&&_, cond}
+use mathlib.Core.Path.{_≡_}
+use mathlib.Core.Bool.{true, _&&_}
 use native.Mathlib.Omega.{arith}
-use lib.Dec.{leb, eqb}
-use lib.ListN.{getD}
+use lib.Dec.{leb}
 use borrow.Author.Tests.{leb-true}
-use Rattle.grain.specs.Dates.{isLeap, monthLengths, monthLength, isDate}
-use Rattle.grain.proofs.Below.{below}
+use Rattle.grain.specs.Dates.{monthLength, isDate}
+use Rattle.grain.proofs.MonthLengths.{at-most-31}
 use Rattle.grain.proofs.Tests.{&&-left, &&-right}
 
 pub record ValidDate (year month day : ℕ) : Type 0 where
@@ -40,16 +39,8 @@ valid-date year month day e =
       lastDay = leb-true _ _ (&&-right (a && b && c && d && f) g e);
     }
 
-month-short : (year month : ℕ) → month ≤ 12 → monthLength year month ≤ 31
-unfolding monthLength monthLengths
-month-short year month l = go (eqb month 2 && isLeap year)
-  where
-    go : (b : Bool) → cond b 29 (getD monthLengths month 0) ≤ 31
-    go true = leb-true 29 31 refl
-    go false = leb-true _ _ (below 13 (λ m. leb (getD monthLengths m 0) 31) refl month (omega arith))
-
 pub day-small : (year month day : ℕ) → ValidDate year month day → day ≤ 31
 day-small year month day is =
-    let short = month-short year month (is .lastMonth) in
+    let short = at-most-31 year month (is .someMonth) (is .lastMonth) in
     let last = is .lastDay in
     omega arith

@@ -1,20 +1,21 @@
 -- Dates: Gregorian, from 2000 to 2098.
 use Prim.Native.Nat.{ℕ, _+_, _-_, _*_, _/_, _%_}
 use mathlib.Core.Bool.{Bool, not, _&&_, _||_, cond}
-use mathlib.Core.List.{List, [], _∷_}
+use mathlib.Core.List.{[], _∷_}
 use lib.Dec.{leb, eqb}
-use lib.ListN.{getD}
+use Rattle.grain.specs.Lists.{isIn}
 
+-- every fourth year, but of those that end a century only every fourth
 unfoldable pub isLeap : ℕ → Bool
 isLeap year = eqb (year % 4) 0 && (not (eqb (year % 100) 0) || eqb (year % 400) 0)
 
--- of a common year; place 0 is no month
-unfoldable pub monthLengths : List ℕ
-monthLengths = 0 ∷ 31 ∷ 28 ∷ 31 ∷ 30 ∷ 31 ∷ 30 ∷ 31 ∷ 31 ∷ 30 ∷ 31 ∷ 30 ∷ 31 ∷ []
-
--- 0 where there is no such month
+-- 30 days in April, June, September and November, 28 in February (29 in a leap year), 31 in the others; 0 for no month
 unfoldable pub monthLength : ℕ → ℕ → ℕ
-monthLength year month = cond (eqb month 2 && isLeap year) 29 (getD monthLengths month 0)
+monthLength year month =
+    cond (not (leb 1 month && leb month 12)) 0
+    (cond (isIn month (4 ∷ 6 ∷ 9 ∷ 11 ∷ [])) 30
+    (cond (eqb month 2) (cond (isLeap year) 29 28)
+    31))
 
 unfoldable pub isDate : ℕ → ℕ → ℕ → Bool
 isDate year month day =

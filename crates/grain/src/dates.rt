@@ -2,9 +2,6 @@
 ghost use mathlib.Core.Path.{_≡_};
 ghost use Rattle.grain.specs.Dates.{isLeap, monthLength, isDate};
 
-// Days of each month in a common year; place 0 is no month.
-const MONTH_LENGTHS: [u32; 13] = [0, 31, 28, 31, 30, 31, 30, 31, 31, 30, 31, 30, 31];
-
 fn is_leap(year: u32) -> bool
     ensures { λ r. ⌜ r ≡ isLeap year ⌝ }
 {
@@ -17,15 +14,18 @@ fn is_leap(year: u32) -> bool
     year % 400 == 0
 }
 
-// 0 where there is no such month.
+// 0 where there is no such month. Months of 31 and of 30 days take turns, and begin afresh in August; February stands apart.
 pub fn month_length(year: u32, month: u32) -> u32
     ensures { λ r. ⌜ r ≡ monthLength year month ⌝ }
 {
+    if month == 0 {
+        return 0;
+    }
     if 12 < month {
         return 0;
     }
     if month != 2 {
-        return MONTH_LENGTHS[month as usize];
+        return 30 + (month + month / 8) % 2;
     }
     if is_leap(year) {
         return 29;

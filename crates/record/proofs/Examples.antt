@@ -8,7 +8,7 @@ use Rattle.grain.specs.Lists.{_and_, every, isAscending, sum}
 use Rattle.grain.specs.Products.{steps, floors, firsts, standardTicks, miniTicks, grainMonths, soybeanMonths, oilAndMealMonths, riceMonths, monthsTraded, tickOf, isTraded}
 use Rattle.grain.specs.Prices.{isOnTick}
 use Rattle.grain.specs.Amounts.{expandedBy, seasonBy, isFit}
-use Rattle.grain.specs.Dates.{isLeap, monthLengths, monthLength, isDate, contractMonth, seasonNumber, daysRemaining}
+use Rattle.grain.specs.Dates.{isLeap, monthLength, isDate, contractMonth, seasonNumber, daysRemaining}
 use Rattle.grain.specs.Spot.{isSpot}
 use Rattle.grain.specs.Check.{spanBy, verdict}
 use Rattle.grain.specs.declared.check.Span.{Span}
@@ -209,7 +209,7 @@ daysOf2025 calls (suc n) month day = calls (of2025 month day) ++ daysOf2025 call
 -- ---- what is computed
 -- The Record after a list of calls. Its line opens every definition of the Record, so that a vector names only this one.
 unfoldable pub stateOf : Record → List Call → Record
-unfolding _and_ every isAscending sum steps floors firsts standardTicks miniTicks grainMonths soybeanMonths oilAndMealMonths riceMonths monthsTraded tickOf isTraded isOnTick expandedBy seasonBy isFit isLeap monthLengths monthLength isDate contractMonth seasonNumber daysRemaining isSpot spanBy verdict groupTable foundProduct foundGroup founded isFitStart isTrueDay openingTests isRenewed openProduct openGroup isMisshapen hasBadMonth hasBadSettlement lacksContract isBeyond sheetTests fileProduct fileGroup collectedMonth windowAfter productMoves groupMoves eventOf groupEvent endProduct endGroup termsTests orderTests judged isSoundSheet isSoundWindow isSoundProduct isSoundGroup isSoundCommon isSound isOutstanding tests refusal answer nextCommon nextGroup next respond stateAfter answers keptFrom
+unfolding _and_ every isAscending sum steps floors firsts standardTicks miniTicks grainMonths soybeanMonths oilAndMealMonths riceMonths monthsTraded tickOf isTraded isOnTick expandedBy seasonBy isFit isLeap monthLength isDate contractMonth seasonNumber daysRemaining isSpot spanBy verdict groupTable foundProduct foundGroup founded isFitStart isTrueDay openingTests isRenewed openProduct openGroup isMisshapen hasBadMonth hasBadSettlement lacksContract isBeyond sheetTests fileProduct fileGroup collectedMonth windowAfter productMoves groupMoves eventOf groupEvent endProduct endGroup termsTests orderTests judged isSoundSheet isSoundWindow isSoundProduct isSoundGroup isSoundCommon isSound isOutstanding tests refusal answer nextCommon nextGroup next respond stateAfter answers keptFrom
 stateOf r cs = stateAfter r cs
 
 -- the answers to further calls after a list of calls

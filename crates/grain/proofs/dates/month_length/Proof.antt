@@ -1,40 +1,43 @@
 use borrow.Author.Needs.{needs}
 use native.Mathlib.Omega.{arith}
-use borrow.Author.Tests.{eq-eqb, ne-eqb}
+use borrow.Author.Tests.{lt-leb, le-leb}
 use mathlib.Core.Path.{sym, _∙_}
-use lib.ListN.{List·getD-eq-default}
-use Rattle.grain.specs.Dates.{monthLengths, monthLength}
+use Rattle.grain.specs.Dates.{monthLength}
+use Rattle.grain.proofs.MonthLengths.{february, by-formula}
 use Rattle.grain.proofs.dates.month_length.Statement.{statement}
 use Rattle.grain.proofs.dates.month_length.Tie as tie
 
 returns : tie.Need-returns
-unfolding monthLength monthLengths
-returns c =
-    let m = c .before .args .month in
-    simp (ne-eqb m 2 (λ e. omega arith), List·getD-eq-default monthLengths 0 {n = m} (omega arith))
-
-mul-result : tie.Need-mul-result
-mul-result c = search needs
-
-array-read-result : tie.Need-array-read-result
-array-read-result c = search needs
+unfolding monthLength
+returns c = simp (c .if1 .taken)
 
 returns-2 : tie.Need-returns-2
-unfolding monthLength monthLengths
-returns-2 c = simp (ne-eqb _ _ (c .if2 .taken))
+unfolding monthLength
+returns-2 c = simp (le-leb 1 (c .before .before .args .month) (omega arith), lt-leb _ _ (c .if2 .taken))
+
+add-result : tie.Need-add-result
+add-result c = search needs
+
+add-result-2 : tie.Need-add-result-2
+add-result-2 c = search needs
+
+returns-3 : tie.Need-returns-3
+-- by omega, which takes any formula that is equal and no other
+returns-3 c =
+    let a = c .before .before .before .args in
+    let formula = by-formula (a .year) (a .month) (omega arith) (c .before .if2 .left) (c .if3 .taken) in
+    omega arith
 
 is-leap-requires : tie.Need-is-leap-requires
 is-leap-requires c κs = search needs
 
-returns-3 : tie.Need-returns-3
-unfolding monthLength
-returns-3 c = simp (eq-eqb _ _ (c .before .before .if2 .left), sym (c .before .is-leap .ensures) ∙ c .if3 .taken)
-
 returns-4 : tie.Need-returns-4
-unfolding monthLength monthLengths
-returns-4 c = simp (c .before .before .if2 .left, sym (c .before .is-leap .ensures) ∙ c .if3 .left)
+returns-4 c = rw (c .before .before .if3 .left, february _, sym (c .before .is-leap .ensures) ∙ c .if4 .taken)
+
+returns-5 : tie.Need-returns-5
+returns-5 c = rw (c .before .before .if3 .left, february _, sym (c .before .is-leap .ensures) ∙ c .if4 .left)
 
 pub month-length-spec : {M : Type 1} → statement M
 month-length-spec =
     tie.close
-    (tie.spec returns mul-result array-read-result returns-2 is-leap-requires returns-3 returns-4)
+    (tie.spec returns returns-2 add-result add-result-2 returns-3 is-leap-requires returns-4 returns-5)
