@@ -7,7 +7,7 @@ use super::compare::{answered_lines, difference, lines};
 use super::coverage::Coverage;
 use super::sent_again::SentAgain;
 use super::side_by_side::PAIRS_A_GROUP;
-use super::{days, garbage, scenario, sent_again, side_by_side};
+use super::{days, every_date, garbage, scenario, sent_again, side_by_side};
 use crate::book::GROUP_COUNT;
 use crate::history::replay::answers;
 use crate::testing::program::{Delivery, Program};
@@ -16,6 +16,8 @@ use crate::testing::program::{Delivery, Program};
 pub enum Job {
     /// Every day from 2000 to 2098.
     AllDays,
+    /// Every year, month and day from 1999 to 2099, true or false.
+    EveryDate,
     /// A generated history, by its seed.
     Generated(u64),
     /// A generated history with orders sent again at the ends of each span.
@@ -54,6 +56,7 @@ const PIECES_A_JOB: u64 = 50;
 const CHECKS_A_DAY: usize = 2;
 
 const ALL_DAYS: &str = "all days";
+const EVERY_DATE: &str = "every date from 1999 to 2099";
 const EXAMPLE: &str = "example";
 const GENERATED: &str = "generated histories";
 const SENT_AGAIN: &str = "histories with orders sent again at the ends of their spans";
@@ -61,12 +64,12 @@ const SIDE_BY_SIDE: &str = "pairs of histories side by side";
 const GARBAGE: &str = "pieces of garbage";
 
 /// The parts in which each history is a test of its own.
-pub const SINGLE: [&str; 2] = [ALL_DAYS, EXAMPLE];
+pub const SINGLE: [&str; 3] = [ALL_DAYS, EVERY_DATE, EXAMPLE];
 
 /// The parts that are one test over many histories.
 pub const DRAWN: [&str; 4] = [GENERATED, SENT_AGAIN, SIDE_BY_SIDE, GARBAGE];
 
-/// All days, the examples, and all that is drawn.
+/// All days, every date, the examples, and all that is drawn.
 pub fn all(examples: Vec<PathBuf>) -> Vec<Job> {
     let examples = examples.into_iter().map(Job::Example);
     let generated = (0..HISTORIES).map(Job::Generated);
@@ -78,7 +81,7 @@ pub fn all(examples: Vec<PathBuf>) -> Vec<Job> {
     let pairs = (0..GROUP_COUNT)
         .flat_map(|group| (0..PAIRS_A_GROUP).map(move |seed| Job::SideBySide { group, seed }));
     let drawn = generated.chain(sent_again).chain(pairs).chain(garbage);
-    [Job::AllDays]
+    [Job::AllDays, Job::EveryDate]
         .into_iter()
         .chain(examples)
         .chain(drawn)
@@ -90,6 +93,7 @@ impl Job {
     pub fn part(&self) -> &'static str {
         match self {
             Job::AllDays => ALL_DAYS,
+            Job::EveryDate => EVERY_DATE,
             Job::Generated(_) => GENERATED,
             Job::SentAgain(_) => SENT_AGAIN,
             Job::Example(_) => EXAMPLE,
@@ -101,6 +105,7 @@ impl Job {
     pub fn name(&self) -> String {
         match self {
             Job::AllDays => ALL_DAYS.to_string(),
+            Job::EveryDate => EVERY_DATE.to_string(),
             Job::Generated(seed) | Job::SentAgain(seed) => format!("seed {seed}"),
             Job::Example(path) => format!("{EXAMPLE} {}", path.display()),
             Job::Garbage { first, count } => format!("{count} seeds from {first} on"),
@@ -112,6 +117,7 @@ impl Job {
     pub fn histories(&self) -> io::Result<Vec<Vec<u8>>> {
         Ok(match self {
             Job::AllDays => vec![days::all_days(CHECKS_A_DAY)],
+            Job::EveryDate => vec![every_date::history()],
             Job::Generated(seed) => vec![scenario::history(*seed).text],
             Job::SentAgain(seed) => {
                 let history = scenario::history(*seed).text;
@@ -131,6 +137,7 @@ impl Job {
 pub fn run(program: &mut Program, job: &Job) -> Outcome {
     match job {
         Job::AllDays => one(job, all_days(program)),
+        Job::EveryDate => one(job, every_date(program)),
         Job::Generated(seed) => generated(program, job, *seed),
         Job::SentAgain(seed) => one(job, sent_again(program, *seed)),
         Job::Example(path) => one(job, example(program, path)),
@@ -197,6 +204,13 @@ fn all_days(program: &mut Program) -> Option<String> {
         Some(_) => Some("a call of the history itself is refused".to_string()),
         None => compare(program, &history, &expected),
     }
+}
+
+/// The expected answers are first held to the calendar, then the program to them.
+fn every_date(program: &mut Program) -> Option<String> {
+    let history = every_date::history();
+    let expected = answers(&history);
+    every_date::miscount(&expected).or_else(|| compare(program, &history, &expected))
 }
 
 fn garbage_from(program: &mut Program, first: u64, count: u64) -> Outcome {

@@ -1,9 +1,10 @@
-//! Histories drawn from a seed, steered by this implementation's own book.
+//! Histories: most are drawn from a seed and steered by this implementation's own book.
 
 pub mod calendar;
 pub mod compare;
 pub mod coverage;
 pub mod days;
+pub mod every_date;
 pub mod false_openings;
 pub mod faults;
 pub mod garbage;
