@@ -1,4 +1,4 @@
--- What month_length computes is the Gregorian length of every month of every year: of February, and by the formula of the others.
+-- The length that month_length computes is the Gregorian one: of February, and by its formula of every other month.
 use Prim.Native.Nat.{ℕ, _+_, _/_, _%_, _≤_}
 use mathlib.Core.Path.{_≡_, refl}
 use mathlib.Core.Bool.{Bool, true, false, _||_, cond}

@@ -14,7 +14,7 @@ fn is_leap(year: u32) -> bool
     year % 400 == 0
 }
 
-// 0 where there is no such month. Months of 31 and of 30 days take turns, and begin afresh in August; February stands apart.
+// 0 where there is no such month.
 pub fn month_length(year: u32, month: u32) -> u32
     ensures { λ r. ⌜ r ≡ monthLength year month ⌝ }
 {
@@ -25,6 +25,7 @@ pub fn month_length(year: u32, month: u32) -> u32
         return 0;
     }
     if month != 2 {
+        // Months of 31 and of 30 days take turns, and begin afresh in August.
         return 30 + (month + month / 8) % 2;
     }
     if is_leap(year) {
