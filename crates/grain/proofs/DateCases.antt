@@ -27,6 +27,7 @@ pub record DateCases : Type 0 where
   pub august32 : isDate 2024 8 32 ≡ false
   pub february29 : isDate 2024 2 29 ≡ true
   pub february30 : isDate 2024 2 30 ≡ false
+  pub commonFebruary28 : isDate 2023 2 28 ≡ true
   pub commonFebruary29 : isDate 2023 2 29 ≡ false
   -- the first and the last date, and those beside them
   pub last1999 : isDate 1999 12 31 ≡ false
@@ -54,6 +55,7 @@ date-cases =
       august32 = refl;
       february29 = refl;
       february30 = refl;
+      commonFebruary28 = refl;
       commonFebruary29 = refl;
       last1999 = refl;
       first2000 = refl;
