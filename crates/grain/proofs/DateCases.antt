@@ -1,4 +1,4 @@
--- The lengths of months and the dates that there are, computed at their edges.
+-- The lengths of months and the dates that there are, computed at their edges; the length of every year.
 use Prim.Native.Nat.{ℕ, _+_}
 use mathlib.Core.Path.{_≡_, refl}
 use mathlib.Core.Bool.{Bool, true, false, cond}

@@ -7,7 +7,6 @@ pub mod Every
 pub mod Fits
 pub mod MarginCases
 pub mod ProductCases
-pub mod MonthLengths
 pub mod MonthSets
 pub mod OnTick
 pub mod Outcomes

@@ -1,12 +1,12 @@
 -- What a date that is one says of its numbers.
 use Prim.Native.Nat.{ℕ, _≤_}
-use mathlib.Core.Path.{_≡_}
-use mathlib.Core.Bool.{true, _&&_}
+use mathlib.Core.Path.{_≡_, refl}
+use mathlib.Core.Bool.{Bool, true, false, _&&_}
 use native.Mathlib.Omega.{arith}
 use lib.Dec.{leb}
 use borrow.Author.Tests.{leb-true}
-use Rattle.grain.specs.Dates.{monthLength, isDate}
-use Rattle.grain.proofs.MonthLengths.{at-most-31}
+use Rattle.grain.specs.Dates.{isLeap, monthLength, isDate}
+use Rattle.grain.proofs.Below.{below}
 use Rattle.grain.proofs.Tests.{&&-left, &&-right}
 
 pub record ValidDate (year month day : ℕ) : Type 0 where
@@ -39,8 +39,16 @@ valid-date year month day e =
       lastDay = leb-true _ _ (&&-right (a && b && c && d && f) g e);
     }
 
+month-short : (year month : ℕ) → month ≤ 12 → monthLength year month ≤ 31
+unfolding monthLength
+month-short year month l = leb-true _ _ (go (isLeap year) refl)
+  where
+    go : (leap : Bool) → isLeap year ≡ leap → leb (monthLength year month) 31 ≡ true
+    go true e = below 13 (λ m. leb (monthLength year m) 31) (rw e) month (omega arith)
+    go false e = below 13 (λ m. leb (monthLength year m) 31) (rw e) month (omega arith)
+
 pub day-small : (year month day : ℕ) → ValidDate year month day → day ≤ 31
 day-small year month day is =
-    let short = at-most-31 year month (is .someMonth) (is .lastMonth) in
+    let short = month-short year month (is .lastMonth) in
     let last = is .lastDay in
     omega arith

@@ -9,7 +9,7 @@ use Rattle.grain.specs.Lists.{isIn}
 unfoldable pub isLeap : ℕ → Bool
 isLeap year = eqb (year % 4) 0 && (not (eqb (year % 100) 0) || eqb (year % 400) 0)
 
--- 30 days in April, June, September and November, 28 in February (29 in a leap year), 31 in the others; 0 for no month
+-- 30 days in April, June, September and November, 28 or 29 in February, 31 in the others; 0 where there is no such month
 unfoldable pub monthLength : ℕ → ℕ → ℕ
 monthLength year month =
     cond (not (leb 1 month && leb month 12)) 0

@@ -3,7 +3,7 @@ use native.Mathlib.Omega.{arith}
 use borrow.Author.Tests.{lt-leb, le-leb}
 use mathlib.Core.Path.{sym, _∙_}
 use Rattle.grain.specs.Dates.{monthLength}
-use Rattle.grain.proofs.MonthLengths.{february, by-formula}
+use Rattle.grain.proofs.Below.{by-cases}
 use Rattle.grain.proofs.dates.month_length.Statement.{statement}
 use Rattle.grain.proofs.dates.month_length.Tie as tie
 
@@ -21,21 +21,25 @@ add-result c = search needs
 add-result-2 : tie.Need-add-result-2
 add-result-2 c = search needs
 
+-- the formula is computed at each month, December first, so that a wrong one fails at its month; 2 and 0 do not come here
 returns-3 : tie.Need-returns-3
--- by omega, which takes any formula that is equal and no other
+unfolding monthLength
 returns-3 c =
-    let a = c .before .before .before .args in
-    let formula = by-formula (a .year) (a .month) (omega arith) (c .before .if2 .left) (c .if3 .taken) in
-    omega arith
+    let month = c .before .before .before .args .month in
+    by-cases _ month 13 (omega arith)
+    (λ e. rw e) (λ e. rw e) (λ e. rw e) (λ e. rw e) (λ e. rw e) (λ e. rw e) (λ e. rw e) (λ e. rw e) (λ e. rw e) (λ e. rw e)
+    (λ e. omega arith) (λ e. rw e) (λ e. omega arith)
 
 is-leap-requires : tie.Need-is-leap-requires
 is-leap-requires c κs = search needs
 
 returns-4 : tie.Need-returns-4
-returns-4 c = rw (c .before .before .if3 .left, february _, sym (c .before .is-leap .ensures) ∙ c .if4 .taken)
+unfolding monthLength
+returns-4 c = rw (c .before .before .if3 .left, sym (c .before .is-leap .ensures) ∙ c .if4 .taken)
 
 returns-5 : tie.Need-returns-5
-returns-5 c = rw (c .before .before .if3 .left, february _, sym (c .before .is-leap .ensures) ∙ c .if4 .left)
+unfolding monthLength
+returns-5 c = rw (c .before .before .if3 .left, sym (c .before .is-leap .ensures) ∙ c .if4 .left)
 
 pub month-length-spec : {M : Type 1} → statement M
 month-length-spec =
