@@ -27,6 +27,16 @@ each P a b c d e f g h (suc (suc (suc (suc (suc (suc zero)))))) l = g
 each P a b c d e f g h (suc (suc (suc (suc (suc (suc (suc zero))))))) l = h
 each P a b c d e f g h (suc (suc (suc (suc (suc (suc (suc (suc p)))))))) l = let z : ⊥ = omega arith in absurd z
 
+-- six groups in turn
+pub each-group : (P : ℕ → Type 0) → P 0 → P 1 → P 2 → P 3 → P 4 → P 5 → (g : ℕ) → g < 6 → P g
+each-group P a b c d e f zero l = a
+each-group P a b c d e f (suc zero) l = b
+each-group P a b c d e f (suc (suc zero)) l = c
+each-group P a b c d e f (suc (suc (suc zero))) l = d
+each-group P a b c d e f (suc (suc (suc (suc zero)))) l = e
+each-group P a b c d e f (suc (suc (suc (suc (suc zero))))) l = f
+each-group P a b c d e f (suc (suc (suc (suc (suc (suc g)))))) l = let z : ⊥ = omega arith in absurd z
+
 -- a product's group, and the product in it
 pub group-is : (b : Book) (p : ℕ) → p < 8
     → groupAt (view b) (groupOf p) ≡ viewGroup b (groupOf p) (productsOf (groupOf p))

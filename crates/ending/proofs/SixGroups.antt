@@ -1,8 +1,7 @@
 -- The six groups in turn: where the products of each stand, and a list of six.
-use Prim.Native.Nat.{ℕ, zero, suc, _-_, _<_, _≤_}
+use Prim.Native.Nat.{ℕ, _-_, _<_, _≤_}
 use mathlib.Core.Path.{_≡_, refl, _∙_}
 use mathlib.Core.List.{List, [], _∷_, map}
-use native.Mathlib.Omega.{arith}
 use lib.Dec.{leb}
 use lib.ListN.{length, getD}
 use lib.Seq.{ext-getD}
@@ -11,16 +10,8 @@ use Rattle.grain.proofs.Below.{below}
 use Rattle.record.specs.State.{groupTable}
 use Rattle.record.specs.History.{productsOf}
 use Rattle.book.specs.Soundness.{six}
+use Rattle.book.proofs.Views.{each-group}
 use Rattle.ending.specs.Lead.{productsFrom}
-
-pub each-group : (P : ℕ → Type 0) → P 0 → P 1 → P 2 → P 3 → P 4 → P 5 → (g : ℕ) → g < 6 → P g
-each-group P a b c d e f zero l = a
-each-group P a b c d e f (suc zero) l = b
-each-group P a b c d e f (suc (suc zero)) l = c
-each-group P a b c d e f (suc (suc (suc zero))) l = d
-each-group P a b c d e f (suc (suc (suc (suc zero)))) l = e
-each-group P a b c d e f (suc (suc (suc (suc (suc zero))))) l = f
-each-group P a b c d e f (suc (suc (suc (suc (suc (suc g)))))) l = let z : ⊥ = omega arith in absurd z
 
 -- the first product of each group, and the one after its last
 abbrev pub firsts : List ℕ

@@ -1,7 +1,7 @@
--- A test that every element passes, of a mapped, a joined and a cut list, and one that none passes.
+-- A test that every element passes, of a mapped, a joined and a cut list, and one that any or none passes.
 use Prim.Native.Nat.{ℕ, zero, suc}
 use mathlib.Core.Path.{_≡_, refl, ap₂}
-use mathlib.Core.Bool.{Bool, true, false}
+use mathlib.Core.Bool.{Bool, true, false, _||_}
 use mathlib.Core.List.{List, [], _∷_, _++_, map}
 use lib.ListN.{drop}
 use Rattle.grain.specs.Lists.{_and_, every, any}
@@ -17,6 +17,10 @@ module _ {A B : Type 0} (f : A → Bool) (g : A → B) (h : B → Bool) where
   unfolding every
   every-mapped e [] = refl
   every-mapped e (x ∷ l) = ap₂ _and_ (e x) (every-mapped e l)
+
+  pub any-mapped : ((x : A) → h (g x) ≡ f x) → (l : List A) → any h (map g l) ≡ any f l
+  any-mapped e [] = refl
+  any-mapped e (x ∷ l) = ap₂ _||_ (e x) (any-mapped e l)
 
   pub every-unless : ((x : A) → f x ≡ false → h (g x) ≡ true) → (l : List A) → any f l ≡ false → every h (map g l) ≡ true
   unfolding every
