@@ -1,1 +1,2 @@
 pub mod Opens
+pub mod SeasonStart

@@ -1,16 +1,18 @@
--- What an opening promises, whatever the book and the date; and what it does to a product's limits.
+-- What an opening promises, whatever the book and the date; and what it does to a product's limits and a group's level and mark.
 use Prim.Native.Nat.{ℕ}
 use mathlib.Core.Path.{_≡_}
 use mathlib.Core.Bool.{Bool, true, false, _&&_, cond}
 use mathlib.Core.List.{List}
 use mathlib.Core.Option.{some}
 use lib.Dec.{eqb}
-use lib.ListN.{length, replicate}
+use lib.ListN.{length, getD, replicate}
+use Rattle.grain.specs.Lists.{any}
 use Rattle.grain.specs.Amounts.{expandedOf, seasonOf}
 use Rattle.record.specs.declared.Day.{Day}
 use Rattle.record.specs.Opening.{isTrueDay}
 use Rattle.record.specs.Record.{opening, Answer, opened, refusal}
 use Rattle.book.specs.declared.Limit.{Limit}
+use Rattle.book.specs.declared.Standing.{Standing}
 use Rattle.book.specs.declared.Book.{Book}
 use Rattle.book.specs.Book.{isNoDay, view}
 use Rattle.book.specs.Calls.{Responds, answerAs}
@@ -40,3 +42,11 @@ limitOn renews window p limit =
     cond (isRenewedBy renews window)
     (record { initial = seasonOf p window; expanded = expandedOf p (seasonOf p window) })
     limit
+
+-- the answers to the eight products say yes for one of these
+abbrev pub isOneRenewed : List Bool → List ℕ → Bool
+isOneRenewed renewed ps = any (λ p. getD renewed p false) ps
+
+-- a group with new limits starts at the initial level, with no mark
+abbrev pub standingOn : Bool → Standing → Standing
+standingOn isRenewed s = cond isRenewed (record { expanded = false; marked = false }) s

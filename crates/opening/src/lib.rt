@@ -12,6 +12,7 @@ use record::Day;
 mod refusals;
 mod renewal;
 mod seasons;
+mod standings;
 
 use refusals::refusal_of;
 use renewal::limits_on;
@@ -19,6 +20,7 @@ use renewal::renewed_on;
 use renewal::windows_on;
 use seasons::is_next_season;
 use seasons::is_other_season;
+use standings::standings_on;
 
 pub struct Opened {
     // 0, or the number of the refusal.
@@ -49,21 +51,24 @@ pub fn opening(b: Book, year: u32, month: u32, day: u32, left: u32) -> Opened
     accepted(b, d)
 }
 
-// What an accepted opening leaves: new limits, then the emptying of windows; levels, marks and sheets stay.
+// What an accepted opening leaves: new limits, with them the initial level, then the emptying of windows; sheets stay.
 fn accepted(b: Book, d: Day) -> Opened
     requires { ⌜ (isSound (view b) ≡ true) × (isTrueDay d ≡ true) ⌝ }
     ensures { λ r. ⌜ (r .refusal ≡ 0) × (answered (r .renewed) ≡ answer (view b) (call d)) × (view (r .book) ≡ nextState (view b) (call d)) ⌝ }
 {
     let last = b.day;
     let w = b.windows;
+    let standings = b.standings;
     let renews = is_next_season(last, d);
+    let renewed = renewed_on(renews, w);
     let mut next = b;
     let limits = limits_on(renews, b);
     next.limits = limits;
+    let started = standings_on(renewed, standings);
+    next.standings = started;
     next.windows = windows_on(is_other_season(last, d), w);
     next.day = d;
     next.is_open = true;
-    let renewed = renewed_on(renews, w);
     Opened {
         refusal: 0,
         renewed,

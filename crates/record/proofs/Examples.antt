@@ -3,7 +3,7 @@ use Prim.Native.Nat.{ℕ, zero, suc, _+_}
 use mathlib.Core.Path.{_≡_, refl, sym, _∙_, ap}
 use mathlib.Core.Bool.{Bool}
 use mathlib.Core.List.{List, [], _∷_, _++_, map}
-use lib.ListN.{getD}
+use lib.ListN.{getD, replicate}
 use Rattle.grain.specs.Lists.{_and_, every, isAscending, sum}
 use Rattle.grain.specs.Products.{steps, floors, firsts, standardTicks, miniTicks, grainMonths, soybeanMonths, oilAndMealMonths, riceMonths, monthsTraded, tickOf, isTraded}
 use Rattle.grain.specs.Prices.{isOnTick}
@@ -15,7 +15,7 @@ use Rattle.grain.specs.declared.check.Span.{Span}
 use Rattle.record.specs.Choices.{concatMap}
 use Rattle.record.specs.State.{Day, Level, Product, Group, Record, groupTable, groupAt}
 use Rattle.record.specs.Founding.{Start, foundProduct, foundGroup, founded, isFitStart}
-use Rattle.record.specs.Opening.{isTrueDay, openingTests, isRenewed, openProduct, openGroup}
+use Rattle.record.specs.Opening.{isTrueDay, openingTests, isRenewed, openProduct, hasNewLimits, openGroup}
 use Rattle.record.specs.Sheet.{isMisshapen, hasBadMonth, hasBadSettlement, lacksContract, isBeyond, sheetTests, fileProduct, fileGroup}
 use Rattle.record.specs.Window.{collectedMonth, windowAfter}
 use Rattle.record.specs.End.{Event, Quiet, Lead, productMoves, groupMoves, eventOf, groupEvent, endProduct, endGroup}
@@ -56,6 +56,14 @@ cornGroup = 0
 -- the Soybean Complex
 abbrev pub complex : ℕ
 complex = 1
+
+-- the group of Chicago Wheat
+abbrev pub chicagoGroup : ℕ
+chicagoGroup = 2
+
+-- the group of Oats
+abbrev pub oatsGroup : ℕ
+oatsGroup = 4
 
 abbrev pub jul24 : ℕ
 jul24 = contractMonth 2024 7
@@ -149,11 +157,18 @@ aBookWith windows =
           (aBook .groups);
     }
 
--- ---- days as lists of calls
 -- a settlement of each product
 abbrev pub usualSettlement : ℕ → ℕ
 usualSettlement p = getD (6000 ∷ 8000 ∷ 5000 ∷ 4000 ∷ 4000 ∷ 4000 ∷ 1920 ∷ 3000 ∷ []) p 0
 
+-- the book with so many of it in the window of each product
+abbrev pub collectedBy : (ℕ → ℕ) → Record
+collectedBy counts = aBookWith (λ p. replicate (counts p) (usualSettlement p))
+
+abbrev pub collected : ℕ → Record
+collected n = collectedBy (λ p. n)
+
+-- ---- days as lists of calls
 -- a sheet of one contract
 abbrev pub oneContract : ℕ → ℕ → ℕ → Call
 oneContract p month settlement = sheet p (month ∷ []) (settlement ∷ [])
@@ -209,7 +224,7 @@ daysOf2025 calls (suc n) month day = calls (of2025 month day) ++ daysOf2025 call
 -- ---- what is computed
 -- The Record after a list of calls. Its line opens every definition of the Record, so that a vector names only this one.
 unfoldable pub stateOf : Record → List Call → Record
-unfolding _and_ every isAscending sum steps floors firsts standardTicks miniTicks grainMonths soybeanMonths oilAndMealMonths riceMonths monthsTraded tickOf isTraded isOnTick expandedBy seasonBy isFit isLeap monthLength isDate contractMonth seasonNumber daysRemaining isSpot spanBy verdict groupTable foundProduct foundGroup founded isFitStart isTrueDay openingTests isRenewed openProduct openGroup isMisshapen hasBadMonth hasBadSettlement lacksContract isBeyond sheetTests fileProduct fileGroup collectedMonth windowAfter productMoves groupMoves eventOf groupEvent endProduct endGroup termsTests orderTests judged isSoundSheet isSoundWindow isSoundProduct isSoundGroup isSoundCommon isSound isOutstanding tests refusal answer nextCommon nextGroup next respond stateAfter answers keptFrom
+unfolding _and_ every isAscending sum steps floors firsts standardTicks miniTicks grainMonths soybeanMonths oilAndMealMonths riceMonths monthsTraded tickOf isTraded isOnTick expandedBy seasonBy isFit isLeap monthLength isDate contractMonth seasonNumber daysRemaining isSpot spanBy verdict groupTable foundProduct foundGroup founded isFitStart isTrueDay openingTests isRenewed openProduct hasNewLimits openGroup isMisshapen hasBadMonth hasBadSettlement lacksContract isBeyond sheetTests fileProduct fileGroup collectedMonth windowAfter productMoves groupMoves eventOf groupEvent endProduct endGroup termsTests orderTests judged isSoundSheet isSoundWindow isSoundProduct isSoundGroup isSoundCommon isSound isOutstanding tests refusal answer nextCommon nextGroup next respond stateAfter answers keptFrom
 stateOf r cs = stateAfter r cs
 
 -- the answers to further calls after a list of calls

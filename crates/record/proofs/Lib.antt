@@ -22,6 +22,7 @@ pub mod Examples
 pub mod Marked
 pub mod EndCases
 pub mod SeasonCases
+pub mod SeasonStartCases
 pub mod WindowCases
 pub mod CheckCases
 pub mod RefusalCases

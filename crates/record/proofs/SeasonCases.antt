@@ -4,10 +4,9 @@ use mathlib.Core.Path.{_≡_, refl}
 use mathlib.Core.Bool.{Bool, true, false}
 use mathlib.Core.List.{List, [], _∷_, _++_}
 use lib.ListN.{replicate}
-use Rattle.record.specs.State.{Day, Record, initial, expanded}
-use Rattle.record.specs.End.{Quiet, Triggered, Held, Raised}
-use Rattle.record.specs.Record.{Call, opening, sheet, opened}
-use Rattle.record.proofs.Examples.{corn, soybeans, oil, meal, chicagoWheat, kcWheat, oats, rice, cornGroup, jul25, nov25, dec25, on, of2025, aBook, aBookWith, usualSettlement, oneContract, fullDay, quietDay, cornJulyDay, daysOf2025, stateOf, Limits, limits, lead, outcome, in-one-run, renewal}
+use Rattle.record.specs.State.{Day}
+use Rattle.record.specs.Record.{Call, sheet, opened}
+use Rattle.record.proofs.Examples.{corn, soybeans, oil, meal, chicagoWheat, kcWheat, oats, rice, jul25, nov25, dec25, on, of2025, aBook, collected, oneContract, fullDay, quietDay, daysOf2025, stateOf, Limits, limits, renewal}
 
 -- the limits of the example book
 abbrev asFounded : List Limits
@@ -55,10 +54,6 @@ unfolding stateOf
 fortyFiveDays = refl
 
 -- ---- with windows that are nearly full
--- a count of the usual settlement in each window
-abbrev collected : ℕ → Record
-collected n = aBookWith (λ p. replicate n (usualSettlement p))
-
 abbrev allNo : List Bool
 allNo = replicate 8 false
 
@@ -135,32 +130,3 @@ pub firstOpening :
     }
 unfolding stateOf
 firstOpening = refl
-
--- ---- a mark over a season
--- Corn is expanded and marked, at 200/320
-abbrev markedInFebruary : List Call
-markedInFebruary = cornJulyDay (on 2025 2 12 11) 6000 ++ cornJulyDay (on 2025 2 13 10) 6200 ++ cornJulyDay (on 2025 2 14 9) 6520
-
--- level and mark carry over; the limits are the season's
-pub markCarriedOver :
-    outcome (collected 42) cornGroup (markedInFebruary ++ opening (on 2025 5 1 21) ∷ [])
-    ≡ record {
-      events = Quiet ∷ Triggered (lead corn jul25) ∷ Held (lead corn jul25) ∷ [];
-      level = expanded;
-      mark = true;
-      limits = limits 440 680 ∷ [];
-    }
-unfolding stateOf
-markCarriedOver = in-one-run _ _ _ _ refl
-
--- a move of exactly the new E then raises
-pub raisedOverSeason :
-    outcome (collected 42) cornGroup (markedInFebruary ++ cornJulyDay (on 2025 5 1 21) 7200)
-    ≡ record {
-      events = Quiet ∷ Triggered (lead corn jul25) ∷ Held (lead corn jul25) ∷ Raised (lead corn jul25) ∷ [];
-      level = initial;
-      mark = false;
-      limits = limits 680 1040 ∷ [];
-    }
-unfolding stateOf
-raisedOverSeason = in-one-run _ _ _ _ refl

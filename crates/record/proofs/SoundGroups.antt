@@ -1,16 +1,16 @@
 -- A group stays sound: its products do, and a mark stands only on an expanded group.
 use Prim.Native.Nat.{ℕ}
 use mathlib.Core.Path.{_≡_, refl}
-use mathlib.Core.Bool.{Bool, true, false, not, _||_}
+use mathlib.Core.Bool.{Bool, true, false, not, _||_, cond}
 use mathlib.Core.List.{List}
 use mathlib.Core.Option.{some}
 use Rattle.grain.specs.Lists.{every, any}
 use Rattle.grain.specs.Amounts.{isFitFounding}
 use Rattle.grain.proofs.Tests.{and-left, and-right, both}
 use Rattle.grain.proofs.Every.{every-map}
-use Rattle.record.specs.State.{Day, Sheet, Group, Common, dayOf}
+use Rattle.record.specs.State.{Day, Sheet, Level, initial, Group, Common, dayOf}
 use Rattle.record.specs.Founding.{Start, limitOf, foundProduct, foundGroup}
-use Rattle.record.specs.Opening.{openProduct, openGroup}
+use Rattle.record.specs.Opening.{hasNewLimits, openProduct, openGroup}
 use Rattle.record.specs.Sheet.{fileProduct, fileGroup}
 use Rattle.record.specs.End.{Event, Quiet, Triggered, Held, Reverted, Raised, levelAfter, markAfter, isAtExpanded, groupMoves, groupEvent, endProduct, endGroup}
 use Rattle.record.specs.Sound.{isSoundSheet, isSoundProduct, isExpanded, isSoundGroup}
@@ -21,10 +21,16 @@ pub found-group : (s : Start) (ps : List ℕ) → every (λ p. isFitFounding p (
 unfolding isSoundGroup foundGroup
 found-group s ps t = both _ _ refl (every-map _ (foundProduct s) isSoundProduct (found-sound s) ps t)
 
+marked-at-opening : (renewed : Bool) (l : Level) (m : Bool) → not m || isExpanded l ≡ true
+    → not (cond renewed false m) || isExpanded (cond renewed initial l) ≡ true
+marked-at-opening true l m t = refl
+marked-at-opening false l m t = t
+
 pub open-group : (c : Common) (d : Day) (g : Group) → isSoundGroup g ≡ true → isSoundGroup (openGroup c d g) ≡ true
 unfolding isSoundGroup openGroup
 open-group c d g t =
-    both _ _ (and-left _ _ t) (every-map _ (openProduct c d) isSoundProduct (open-sound c d) (g .products) (and-right _ _ t))
+    both _ _ (marked-at-opening (hasNewLimits c d g) (g .level) (g .mark) (and-left _ _ t))
+    (every-map _ (openProduct c d) isSoundProduct (open-sound c d) (g .products) (and-right _ _ t))
 
 pub file-group : (p : ℕ) (s : Sheet) → isSoundSheet p (some s) ≡ true → (g : Group) → isSoundGroup g ≡ true
     → isSoundGroup (fileGroup p s g) ≡ true

@@ -5,11 +5,12 @@ use mathlib.Core.List.{List, [], _∷_, map}
 use mathlib.Core.Option.{Option, some, none}
 use lib.Dec.{leb, eqb}
 use lib.ListN.{length}
+use Rattle.grain.specs.Lists.{any}
 use Rattle.grain.specs.Amounts.{expandedOf, seasonOf}
 use Rattle.grain.specs.Dates.{isDate, daysRemaining, seasonNumber}
 use Rattle.grain.specs.Refusals.{noSuchDate}
 use Rattle.record.specs.Refusals.{Test, when, wrongPhase, notLater, leftNotSmaller}
-use Rattle.record.specs.State.{Day, Product, Group, Common, monthOf}
+use Rattle.record.specs.State.{Day, initial, Product, Group, Common, monthOf}
 
 -- a date, with left at most the days remaining in its month
 unfoldable pub isTrueDay : Day → Bool
@@ -67,6 +68,15 @@ openProduct c d q =
       last = q .last;
     }
 
--- levels and marks carry over
+-- a product of the group gets its season limits
+unfoldable pub hasNewLimits : Common → Day → Group → Bool
+hasNewLimits c d g = any (isRenewed c d) (g .products)
+
+-- a group with new limits starts the season at the initial level, with no mark; any other keeps its level and mark
 unfoldable pub openGroup : Common → Day → Group → Group
-openGroup c d g = record { level = g .level; mark = g .mark; products = map (openProduct c d) (g .products) }
+openGroup c d g =
+    record {
+      level = cond (hasNewLimits c d g) initial (g .level);
+      mark = cond (hasNewLimits c d g) false (g .mark);
+      products = map (openProduct c d) (g .products);
+    }
