@@ -275,7 +275,8 @@ uint32_t botskhela_found(botskhela_book *book, uint32_t corn, uint32_t soybeans,
 
 /*
  * Opens a day. left is the number of business days of the month after it, so that within a month each opening has a smaller
- * one than the opening before it. Sets renewed.
+ * one than the opening before it. In the season after the last one, a product with 45 settlements in its window gets new
+ * limits, and its whole group goes to the initial level with no mark. Sets renewed.
  *
  * Refusals: BOTSKHELA_UNSOUND, BOTSKHELA_WRONG_PHASE, BOTSKHELA_NO_SUCH_DATE, BOTSKHELA_NOT_LATER,
  * BOTSKHELA_LEFT_NOT_SMALLER.
