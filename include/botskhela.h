@@ -88,7 +88,10 @@ typedef struct botskhela_limit {
     uint32_t expanded;
 } botskhela_limit;
 
-/* A group's level, and its mark: held on the ended day before, with a move of exactly the expanded limit. */
+/*
+ * A group's level, and its mark: held on the ended day before, with a move of exactly the expanded limit, and no new limits
+ * since.
+ */
 typedef struct botskhela_standing {
     uint32_t expanded; /* 0 or 1 */
     uint32_t marked;   /* 0 or 1 */

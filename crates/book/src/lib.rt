@@ -23,7 +23,7 @@ pub struct Limit {
     pub expanded: u32,
 }
 
-// A group's level, and the rule's mark: held on the ended day before, with a move of exactly E.
+// A group's level, and the rule's mark: held on the ended day before, with a move of exactly E, and no new limits since.
 pub struct Standing {
     pub expanded: bool,
     pub marked: bool,

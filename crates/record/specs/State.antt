@@ -34,7 +34,7 @@ pub record Product : Type 0 where
 
 pub record Group : Type 0 where
   pub level : Level
-  -- the rule's mark: held on the ended day before, with a move of exactly E
+  -- the rule's mark: held on the ended day before, with a move of exactly E, and no new limits since
   pub mark : Bool
   pub products : List Product
 
