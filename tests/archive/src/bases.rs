@@ -9,8 +9,9 @@ use oracle::book::window::LARGEST_WINDOW;
 use oracle::book::{Book, Level, Sheet, GROUP_COUNT};
 use oracle::image::{EventWords, Image};
 use oracle::testing::history::calendar::calendar;
-use oracle::testing::history::listing::Custom;
+use oracle::testing::history::listing::{Collected, Custom};
 use oracle::testing::history::market::Market;
+use oracle::testing::history::pace::Phase;
 use oracle::testing::random::Random;
 
 pub struct Base {
@@ -147,12 +148,14 @@ fn market() -> Market {
         leaves_out: 1_000,
         drops_spot: 1_000,
         is_far: false,
+        collected: Collected::Any,
         price: PRICES[product],
     };
     Market {
         customs: std::array::from_fn(custom),
         driver: None,
         calm: 1,
+        phase: Phase::Middle,
     }
 }
 

@@ -1,6 +1,7 @@
 //! Every call on images of four kinds.
 
-use oracle::book::Book;
+use oracle::book::window::LARGEST_WINDOW;
+use oracle::book::{Book, Level, GROUPS, GROUP_COUNT};
 use oracle::history::call::Call;
 use oracle::image::calls::ACCEPTED;
 use oracle::image::{Image, BOOK_WORDS, WORDS};
@@ -16,7 +17,10 @@ use crate::draw;
 use crate::fields::{Field, PARTS};
 use crate::noise;
 use crate::odd;
-use crate::reached::{Reached, ANSWERS, ENDS, OUTCOMES, UNSOUND};
+use crate::reached::{
+    Reached, ANSWERS, BROUGHT_BACK, COMPLEX, ENDS, FIRST, NONE_FULL, OUTCOMES, SAME_SEASON,
+    SKIPPED, TURNS, UNSOUND,
+};
 use crate::values::wrong_values;
 
 const SEED: u64 = 20_241_101;
@@ -76,22 +80,44 @@ impl<'a> Run<'a> {
     fn change(&mut self, image: &Image, call: &Call, name: impl Fn() -> String) {
         let (compared, after) = self.comparer.change(image, call);
         if compared.number == ACCEPTED {
-            self.note_outcome(call, &after);
+            self.note_outcome(call, image, &after);
         }
         self.note(name_of(call), compared, || {
             format!("{call:?} on {}", name())
         });
     }
 
-    fn note_outcome(&mut self, call: &Call, after: &Image) {
+    fn note_outcome(&mut self, call: &Call, before: &Image, after: &Image) {
         match call {
-            Call::Open(_) => {
-                (after.renewed.iter()).for_each(|&one| self.reached.count("renewed", one))
-            }
+            Call::Open(_) => self.note_opened(before, after),
             Call::End => {
                 (after.events.iter()).for_each(|one| self.reached.count("event", one.kind))
             }
             _ => {}
+        }
+    }
+
+    fn note_opened(&mut self, before: &Image, after: &Image) {
+        (after.renewed.iter()).for_each(|&one| self.reached.count("renewed", one));
+        let books = before.book().zip(after.book());
+        let (before, after) = books.expect("an accepted opening leaves a book");
+        (0..GROUP_COUNT).for_each(|group| self.note_turn(&before, &after, group));
+    }
+
+    /// What came of a group that was expanded before an opening.
+    fn note_turn(&mut self, before: &Book, after: &Book, group: usize) {
+        let standing = before.standings[group];
+        if standing.level == Level::Initial {
+            return;
+        }
+        let is_full = |&&product: &&usize| before.windows[product].len() == LARGEST_WINDOW;
+        let full = GROUPS[group].iter().filter(is_full).count();
+        let Some(turn) = turn(before, after, full) else {
+            return;
+        };
+        self.reached.count(turn, u32::from(standing.marked));
+        if group == 1 && turn == BROUGHT_BACK {
+            self.reached.count(COMPLEX.0, full as u32);
         }
     }
 
@@ -134,10 +160,29 @@ impl<'a> Run<'a> {
         let ends = self
             .reached
             .judge(&ENDS, |_, times| can_be_unsound || times >= LEAST);
+        // The bases have all windows full, or none.
+        let is_enough = |_, times| can_be_unsound || times >= LEAST;
+        let turns = self.reached.judge(&TURNS, is_enough);
+        let complex = self.reached.judge(&[COMPLEX], is_enough);
         score.one(
             &format!("{kind} reach every answer"),
-            calls.or(outcomes).or(ends),
+            calls.or(outcomes).or(ends).or(turns).or(complex),
         );
+    }
+}
+
+/// The kind of an opening for a group with so many full windows, if it has to be reached.
+fn turn(before: &Book, after: &Book, full: usize) -> Option<&'static str> {
+    let season = |book: &Book| book.last_opened().map(|(date, _)| date.season());
+    let now = season(after)?;
+    let seasons = season(before).map(|last| now - last);
+    match (seasons, full) {
+        (Some(1), 0) => Some(NONE_FULL),
+        (_, 0) => None,
+        (Some(0), _) => Some(SAME_SEASON),
+        (Some(1), _) => Some(BROUGHT_BACK),
+        (Some(_), _) => Some(SKIPPED),
+        (None, _) => Some(FIRST),
     }
 }
 

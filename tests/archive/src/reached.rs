@@ -22,6 +22,25 @@ pub const CHECK: &[u32] = &[100, 101, 102, 103, UNSOUND, 2, 5, 14, 8];
 /// What accepted openings and ends put in: whether a product got new limits, and a group's event.
 pub const OUTCOMES: [Range; 2] = [("renewed", &[0, 1]), ("event", &[0, 1, 2, 3, 4])];
 
+pub const BROUGHT_BACK: &str = "brought back";
+pub const NONE_FULL: &str = "next, none full";
+pub const SAME_SEASON: &str = "same season";
+pub const SKIPPED: &str = "season skipped";
+pub const FIRST: &str = "first opening";
+
+/// What came of an expanded group at an accepted opening, 1 where it was marked too. A full window of its own brings it
+/// back in the next season; it is kept with one in the same season, over a skipped one and at a first opening.
+pub const TURNS: [Range; 5] = [
+    (BROUGHT_BACK, &[0, 1]),
+    (NONE_FULL, &[0, 1]),
+    (SAME_SEASON, &[0, 1]),
+    (SKIPPED, &[0, 1]),
+    (FIRST, &[0, 1]),
+];
+
+/// By how many of its products the Complex was brought back.
+pub const COMPLEX: Range = ("Complex back by", &[1, 2, 3]);
+
 /// Whether the ends of a check's span are the first price of the tick and the last price: 1 where they are.
 pub const ENDS: [Range; 2] = [("lowest is first", &[0, 1]), ("highest is last", &[0, 1])];
 

@@ -1,7 +1,8 @@
 //! Days by hand in June 2024, for the tests of the book.
 
-use super::end::Event;
-use super::{Book, GROUP_COUNT};
+use super::end::{Contract, Event};
+use super::opening::NewLimits;
+use super::{Book, Level, Standing, GROUP_COUNT};
 use crate::products::PRODUCTS;
 use crate::verdict::Span;
 
@@ -9,6 +10,8 @@ pub const CORN: usize = 0;
 pub const SOYBEANS: usize = 1;
 pub const OIL: usize = 2;
 pub const MEAL: usize = 3;
+pub const CHICAGO_WHEAT: usize = 4;
+pub const KC_WHEAT: usize = 5;
 pub const OATS: usize = 6;
 
 /// July 2024, the first contract of each sheet.
@@ -18,6 +21,15 @@ pub const JULY: u32 = 2024 * 12 + 6;
 pub const FIRST_SETTLEMENT: u32 = 6_000;
 
 pub const LIMITS: [u32; 8] = [200, 400, 200, 200, 240, 240, 160, 100];
+
+pub const EXPANDED: Standing = Standing {
+    level: Level::Expanded,
+    marked: false,
+};
+pub const MARKED: Standing = Standing {
+    level: Level::Expanded,
+    marked: true,
+};
 
 /// Of Corn on the second day.
 pub const CORN_SPAN: Span = Span {
@@ -52,6 +64,12 @@ pub fn contracts(product: usize, from: u32, count: usize) -> Vec<u32> {
     traded.take(count).collect()
 }
 
+/// The contract at a place of a product's sheet.
+pub fn contract(product: usize, place: usize) -> Contract {
+    let month = contracts(product, JULY, 10)[place];
+    Contract { month, product }
+}
+
 impl Trial {
     /// The book after one ended day on which ten contracts of each product settled.
     pub fn new(limits: [u32; 8]) -> Trial {
@@ -75,6 +93,16 @@ impl Trial {
         let opened = self.book.open(2024, 6, self.next_day, left);
         assert_eq!(opened, Ok([false; 8]));
         self.next_day += 1;
+    }
+
+    /// Opens the next day as if the last one had been another.
+    pub fn open_after(&mut self, last: [u32; 3]) -> NewLimits {
+        self.book.date = Some(last);
+        self.book.left = 0;
+        let day = self.next_day;
+        self.next_day += 1;
+        let opened = self.book.open(2024, 6, day, 30 - day);
+        opened.expect("an opening")
     }
 
     pub fn file(&mut self, product: usize) {

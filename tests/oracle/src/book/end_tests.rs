@@ -1,29 +1,14 @@
 //! The marked numbers (h) to (n), and further ends by hand.
 
-use super::by_hand::{contracts, Trial, CORN, CORN_SPAN, JULY, LIMITS, MEAL, OATS, OIL, SOYBEANS};
-use super::end::{Contract, Event};
-use super::{Level, Limits, Standing};
+use super::by_hand::{
+    contract, Trial, CORN, CORN_SPAN, EXPANDED, JULY, LIMITS, MARKED, MEAL, OATS, OIL, SOYBEANS,
+};
+use super::end::Event;
+use super::{Limits, Standing};
 use crate::refusal::Refusal;
 use crate::verdict::{Span, Verdict};
 
-const EXPANDED: Standing = Standing {
-    level: Level::Expanded,
-    marked: false,
-};
-const MARKED: Standing = Standing {
-    level: Level::Expanded,
-    marked: true,
-};
-const INITIAL: Standing = Standing {
-    level: Level::Initial,
-    marked: false,
-};
-
-/// The contract at a place of a product's sheet.
-fn contract(product: usize, place: usize) -> Contract {
-    let month = contracts(product, JULY, 10)[place];
-    Contract { month, product }
-}
+const INITIAL: Standing = Standing::INITIAL;
 
 fn corn() -> Trial {
     Trial::new(LIMITS)
@@ -223,40 +208,6 @@ fn moves_that_no_list_of_calls_reaches() {
     let events = expanded.end().expect("an end");
     assert_eq!(events[4], Event::Held(contract(OATS, 0)));
     assert_eq!(expanded.standings[4], EXPANDED);
-}
-
-#[test]
-fn a_mark_over_a_season_change_raises_by_the_new_limits() {
-    let mut trial = expanded_corn();
-    trial.day(&[(CORN, 0, 320)]);
-    trial.book.windows[0] = vec![6_000; 45];
-    let opened = trial.book.open(2024, 11, 1, 20).expect("an opening");
-    assert!(opened[0]);
-    let corn = contracts(CORN, JULY + 5, 3);
-    assert_eq!(trial.book.file(0, &corn, &[6_680; 3]), Err(Refusal::Absent));
-    let corn = contracts(CORN, JULY + 5, 8);
-    let others = |product| contracts(product, JULY + 4, 16);
-    trial.book.file(0, &corn, &[6_680; 8]).expect("a move of E");
-    for product in 1..8 {
-        trial
-            .book
-            .file(product as u32, &others(product), &[6_000; 16])
-            .expect("no move");
-    }
-    let events = trial.book.end().expect("an end");
-    // December is the date's next month; with left 20 it is not spot.
-    let december = Contract {
-        month: JULY + 5,
-        product: CORN,
-    };
-    assert_eq!(events[0], Event::Raised(december));
-    assert_eq!(
-        trial.book.limits[0],
-        Limits {
-            initial: 680,
-            expanded: 1_040
-        }
-    );
 }
 
 #[test]

@@ -1,14 +1,9 @@
 //! Founding: a fresh book from eight initial limits.
 
-use super::{Book, Level, Limits, Standing, GROUP_COUNT, PRODUCT_COUNT};
+use super::{Book, Limits, Standing, GROUP_COUNT, PRODUCT_COUNT};
 use crate::amounts;
 use crate::products::PRODUCTS;
 use crate::refusal::Refusal;
-
-const AT_FIRST: Standing = Standing {
-    level: Level::Initial,
-    marked: false,
-};
 
 impl Book {
     /// The fresh book, or 13 where a limit is unfit.
@@ -21,7 +16,7 @@ impl Book {
             is_open: false,
             date: None,
             left: 0,
-            standings: [AT_FIRST; GROUP_COUNT],
+            standings: [Standing::INITIAL; GROUP_COUNT],
             limits: std::array::from_fn(|product| Limits::from_initial(product, limits[product])),
             windows: Default::default(),
             sheets_in: Default::default(),

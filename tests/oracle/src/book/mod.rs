@@ -14,9 +14,13 @@ pub mod by_hand;
 #[cfg(test)]
 mod end_tests;
 #[cfg(test)]
+mod season_tests;
+#[cfg(test)]
 mod sheet_tests;
 #[cfg(test)]
 mod sound_tests;
+#[cfg(test)]
+mod spring_tests;
 
 use crate::amounts;
 use crate::dates::Date;
@@ -45,7 +49,7 @@ pub enum Level {
 #[derive(Clone, Copy, Debug, PartialEq, Eq)]
 pub struct Standing {
     pub level: Level,
-    /// On the ended day before, a contract moved by exactly E and the group was held.
+    /// On the ended day before, a contract moved by exactly E and the group was held; it got no new limits since.
     pub marked: bool,
 }
 
@@ -70,6 +74,14 @@ pub struct Book {
     pub windows: [Vec<u32>; PRODUCT_COUNT],
     pub sheets_in: [Option<Sheet>; PRODUCT_COUNT],
     pub last_ended: [Option<Sheet>; PRODUCT_COUNT],
+}
+
+impl Standing {
+    /// At the initial level no group is marked.
+    pub const INITIAL: Standing = Standing {
+        level: Level::Initial,
+        marked: false,
+    };
 }
 
 impl Limits {

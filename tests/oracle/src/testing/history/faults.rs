@@ -2,7 +2,7 @@
 
 use super::market::moved;
 use crate::book::sheet::LARGEST_SHEET;
-use crate::book::Book;
+use crate::book::{Book, Limits};
 use crate::dates::is_spot;
 use crate::history::call::SheetCall;
 use crate::prices::LARGEST_PRICE;
@@ -47,6 +47,22 @@ pub fn spoil(random: &mut Random, book: &Book, good: &SheetCall) -> SheetCall {
     for (fault, place) in faults {
         spoiler.put_in(fault, place);
     }
+    spoiler.call
+}
+
+/// The sheet with a contract that moved beyond I, though not beyond E.
+pub fn widen(random: &mut Random, book: &Book, good: &SheetCall) -> SheetCall {
+    let product = good.product as usize;
+    let Limits { initial, expanded } = book.limits[product];
+    let least = initial + PRODUCTS[product].standard_tick;
+    let size = random.pick(&[least, expanded]);
+    let place = random.pick(&[Place::Front, Place::Back]);
+    let mut spoiler = Spoiler {
+        random,
+        book,
+        call: good.clone(),
+    };
+    spoiler.move_by(place, size);
     spoiler.call
 }
 
@@ -123,6 +139,14 @@ impl Spoiler<'_> {
 
     /// Row 10, mostly by one tick.
     fn go_beyond(&mut self, place: Place) {
+        let product = self.call.product as usize;
+        let tick = PRODUCTS[product].standard_tick;
+        let ticks = self.random.pick(&[1, 1, 1, 2, 500]);
+        self.move_by(place, self.book.limit_today(product) + ticks * tick);
+    }
+
+    /// A contract that is due at an end of the sheet, up or down.
+    fn move_by(&mut self, place: Place, size: u32) {
         let Some(index) = self.due_at(place) else {
             return;
         };
@@ -130,8 +154,6 @@ impl Spoiler<'_> {
         let tick = PRODUCTS[product].standard_tick;
         let last = self.book.last_settlement(product, self.call.months[index]);
         let last = last.expect("a due contract was listed");
-        let ticks = self.random.pick(&[1, 1, 1, 2, 500]);
-        let size = self.book.limit_today(product) + ticks * tick;
         if let Some(settlement) = moved(self.random, last, size, tick) {
             self.call.settlements[index] = settlement;
         }

@@ -1,6 +1,7 @@
 //! Which contracts a product's sheet lists on a day.
 
 use crate::book::sheet::LARGEST_SHEET;
+use crate::book::window::collected_contract;
 use crate::book::Book;
 use crate::dates::{is_spot, Date};
 use crate::products::PRODUCTS;
@@ -17,14 +18,28 @@ pub struct Custom {
     pub drops_spot: usize,
     /// Lists months near the largest of 32 bits.
     pub is_far: bool,
+    pub collected: Collected,
     /// About where a new contract settles.
     pub price: u32,
+}
+
+/// When a product lists the contracts that windows collect.
+#[derive(Clone, Copy, Debug, PartialEq, Eq)]
+pub enum Collected {
+    /// As any others.
+    Any,
+    /// Each in its season, from the day on that finds so many settlements in some window.
+    Behind(usize),
+    Never,
 }
 
 /// Today's months: those that have to stay, and new ones.
 pub fn months_today(random: &mut Random, book: &Book, product: usize, custom: &Custom) -> Vec<u32> {
     let (date, left) = book.last_opened().expect("a day is open");
     let mut months = stay(random, book, product, custom, (date, left));
+    if let Some(month) = due(book, product, custom, date) {
+        enter(&mut months, month);
+    }
     let enters = months.is_empty() || random.one_in(6) || months.len() + 4 < custom.contracts;
     if enters && custom.is_far && random.one_in(3) {
         enter(&mut months, far_month(random, product));
@@ -51,6 +66,29 @@ fn stay(
         .collect()
 }
 
+/// The collected contract, if its day has come.
+fn due(book: &Book, product: usize, custom: &Custom, date: Date) -> Option<u32> {
+    let Collected::Behind(days) = custom.collected else {
+        return None;
+    };
+    if book.windows.iter().all(|window| window.len() < days) {
+        return None;
+    }
+    collected_contract(product, date)
+}
+
+/// Whether the month is listed only when it is due, or never.
+fn is_withheld(product: usize, custom: &Custom, month: u32) -> bool {
+    if custom.collected == Collected::Any {
+        return false;
+    }
+    let mut of_its_year = [1, 5]
+        .into_iter()
+        .filter_map(|season| Date::new(month / 12, season, 1))
+        .map(|date| collected_contract(product, date));
+    of_its_year.any(|collected| collected == Some(month))
+}
+
 /// Fills up from the near end to the number that the sheet aims at.
 fn fill(random: &mut Random, months: &mut Vec<u32>, product: usize, custom: &Custom, date: Date) {
     let from = date.contract_month() + random.below(2) as u32;
@@ -58,7 +96,7 @@ fn fill(random: &mut Random, months: &mut Vec<u32>, product: usize, custom: &Cus
         if months.len() >= custom.contracts {
             return;
         }
-        if !random.one_in(custom.leaves_out) {
+        if !is_withheld(product, custom, month) && !random.one_in(custom.leaves_out) {
             enter(months, month);
         }
     }

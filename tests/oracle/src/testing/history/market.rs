@@ -1,6 +1,7 @@
 //! Where contracts settle on a day: moods that bring a group to each of its events.
 
 use super::listing::{self, Custom};
+use super::pace::Phase;
 use crate::book::{Book, Level, Limits, GROUPS, GROUP_COUNT};
 use crate::dates::is_spot;
 use crate::history::call::SheetCall;
@@ -14,6 +15,8 @@ pub struct Market {
     pub driver: Option<usize>,
     /// One in so many days has a mood; on the others contracts hardly move.
     pub calm: usize,
+    /// Near a change of season every group is led; else it has its moods.
+    pub phase: Phase,
 }
 
 /// A contract on a sheet that is being drafted.
@@ -58,12 +61,16 @@ enum Size {
 
 type Mood = (Background, Option<(Which, Size)>);
 
+const BY_I: Mood = (Background::Small, Some((Which::InFirst, Size::Initial)));
+const HELD: Mood = (Background::Small, Some((Which::Any, Size::Initial)));
+const BY_E: Mood = (Background::Small, Some((Which::Any, Size::Expanded)));
+
 const AT_INITIAL: [Mood; 10] = [
     (Background::Small, None),
     (Background::Small, None),
     (Background::Still, None),
     (Background::Full, None),
-    (Background::Small, Some((Which::InFirst, Size::Initial))),
+    BY_I,
     (Background::Still, Some((Which::InFirst, Size::Initial))),
     (Background::Full, Some((Which::InFirst, Size::Initial))),
     (Background::Small, Some((Which::PastFirst, Size::Initial))),
@@ -72,12 +79,12 @@ const AT_INITIAL: [Mood; 10] = [
 ];
 
 const AT_EXPANDED: [Mood; 12] = [
-    (Background::Small, Some((Which::Any, Size::Expanded))),
+    BY_E,
     (Background::Still, Some((Which::Any, Size::Expanded))),
     (Background::Small, Some((Which::PastFirst, Size::Expanded))),
     (Background::Full, Some((Which::Any, Size::Expanded))),
-    (Background::Small, Some((Which::Any, Size::Expanded))),
-    (Background::Small, Some((Which::Any, Size::Initial))),
+    BY_E,
+    HELD,
     (Background::Small, Some((Which::Any, Size::BelowExpanded))),
     (Background::Small, Some((Which::PastFirst, Size::Between))),
     (Background::Small, Some((Which::Any, Size::Between))),
@@ -132,15 +139,30 @@ impl Market {
     }
 
     fn mood(&self, random: &mut Random, book: &Book, group: usize) -> Mood {
+        let level = book.standings[group].level;
+        if let Some(mood) = self.led(random, level) {
+            return mood;
+        }
         if !random.one_in(self.calm) {
             return (Background::Small, None);
         }
         let is_driven = group == 1 && self.driver.is_some() && !random.one_in(5);
-        match (book.standings[group].level, is_driven) {
-            (Level::Initial, true) => AT_INITIAL[4],
-            (Level::Expanded, true) => AT_EXPANDED[0],
+        match (level, is_driven) {
+            (Level::Initial, true) => BY_I,
+            (Level::Expanded, true) => BY_E,
             (Level::Initial, false) => random.pick(&AT_INITIAL),
             (Level::Expanded, false) => random.pick(&AT_EXPANDED),
+        }
+    }
+
+    /// Expanded, marked or not, into another season, and there on to a raise.
+    fn led(&self, random: &mut Random, level: Level) -> Option<Mood> {
+        match (self.phase, level) {
+            (Phase::Middle, _) => None,
+            (_, Level::Initial) => Some(BY_I),
+            (Phase::Closing, Level::Expanded) => Some(HELD),
+            (Phase::Last, Level::Expanded) => Some(random.pick(&[HELD, BY_E])),
+            (Phase::Beginning, Level::Expanded) => Some(BY_E),
         }
     }
 

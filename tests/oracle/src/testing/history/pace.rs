@@ -20,6 +20,41 @@ pub enum Pace {
     Leaps,
 }
 
+/// Where a day stands among the weekdays in a row between two changes of season.
+#[derive(Clone, Copy, Debug, PartialEq, Eq)]
+pub enum Phase {
+    /// Soon after a change.
+    Beginning,
+    Middle,
+    /// Soon before a change.
+    Closing,
+    /// The last day before a change.
+    Last,
+}
+
+/// So many days after a change, and before the last one, are soon.
+const SOON: usize = 4;
+
+impl Pace {
+    /// The phase of a day of a book's life, the first of which is 1.
+    pub fn phase(self, day: usize) -> Phase {
+        let (Pace::Seasons(stay) | Pace::NextSeason(stay)) = self else {
+            return Phase::Middle;
+        };
+        let since = day % stay;
+        if since + 1 == stay {
+            return Phase::Last;
+        }
+        if since + 1 + SOON >= stay {
+            return Phase::Closing;
+        }
+        match since < SOON && day >= stay {
+            true => Phase::Beginning,
+            false => Phase::Middle,
+        }
+    }
+}
+
 /// The place in the calendar of the day after one with so much left, or None past its end.
 pub fn next_day(
     random: &mut Random,
@@ -130,6 +165,25 @@ mod tests {
             let left = left_of(&mut random, today, true, Some(last));
             assert!(left < last.1 && left <= date.days_remaining(), "{date:?}");
         }
+    }
+
+    #[test]
+    fn a_change_of_season_follows_the_last_day() {
+        let mut random = Random::new(104);
+        let days = &calendar().days;
+        for pace in [Pace::Seasons(46), Pace::NextSeason(47), Pace::Seasons(30)] {
+            let mut today = calendar().place(2024, 5, 1);
+            for day in 1..=190 {
+                let next = next_day(&mut random, pace, (today, 5), day).expect("a later day");
+                let turns = days[next].season() != days[today].season();
+                assert_eq!(turns, pace.phase(day) == Phase::Last, "{pace:?} {day}");
+                let begins = turns && pace.phase(day + 1) == Phase::Beginning;
+                assert_eq!(turns, begins, "{pace:?} {day}");
+                today = next;
+            }
+        }
+        assert_eq!(Pace::Seasons(46).phase(1), Phase::Middle);
+        assert_eq!(Pace::Daily.phase(45), Phase::Middle);
     }
 
     #[test]

@@ -2,10 +2,12 @@
 
 use super::calendar::calendar;
 use super::coverage::Coverage;
-use super::pace;
+use super::pace::{self, Phase};
 use super::temper::{self, Temper};
 use super::writer::Writer;
 use super::{false_openings, faults, stray};
+use crate::book::groups::group_of;
+use crate::book::{GROUPS, GROUP_COUNT};
 use crate::history::call::{Call, SheetCall};
 use crate::testing::random::Random;
 
@@ -25,6 +27,8 @@ struct Scenario {
     today: usize,
     /// Days ended so far.
     ended: usize,
+    /// Groups that today's opening brought back.
+    brought_back: [bool; GROUP_COUNT],
 }
 
 /// Draws a history of about 2,000 lines.
@@ -41,6 +45,7 @@ pub fn history_of(seed: u64, lines: usize) -> History {
         random,
         temper,
         ended: 0,
+        brought_back: [false; GROUP_COUNT],
     };
     scenario.before_founding();
     while scenario.writer.lines < lines {
@@ -100,11 +105,12 @@ impl Scenario {
             let call = false_openings::draw(&mut self.random, book, next);
             self.call(call);
         }
-        let answer = self.call(Call::Open(next));
-        assert!(answer.starts_with("opened"), "{next:?}: {answer}");
+        self.open(next);
         if self.takes_chance() {
             self.call(Call::End);
         }
+        self.wide_orders();
+        self.set_phase();
         self.sheets();
         self.stray_while_open();
         self.call(Call::End);
@@ -113,6 +119,37 @@ impl Scenario {
             self.call(Call::Book);
         }
         self.turn_day(next[3]);
+    }
+
+    fn open(&mut self, next: [u32; 4]) {
+        let was = self.writer.book().standings;
+        let answer = self.call(Call::Open(next));
+        assert!(answer.starts_with("opened"), "{next:?}: {answer}");
+        let is = self.writer.book().standings;
+        let is_back = |group: usize| is[group].level != was[group].level;
+        self.brought_back = std::array::from_fn(is_back);
+    }
+
+    /// Orders that the expanded level would have found within, and the book, where groups were brought back.
+    fn wide_orders(&mut self) {
+        let groups = (0..GROUP_COUNT).filter(|&group| self.brought_back[group]);
+        let products: Vec<usize> = groups.flat_map(|group| GROUPS[group]).copied().collect();
+        for &product in &products {
+            let book = self.writer.book();
+            let order = stray::wide_order(&mut self.random, book, product);
+            self.call(Call::Check(order));
+        }
+        if !products.is_empty() {
+            self.call(Call::Book);
+        }
+    }
+
+    /// One day in six goes its own way.
+    fn set_phase(&mut self) {
+        self.temper.market.phase = match self.random.one_in(6) {
+            true => Phase::Middle,
+            false => self.temper.pace.phase(self.ended + 1),
+        };
     }
 
     fn next_opening(&mut self) -> [u32; 4] {
@@ -148,6 +185,9 @@ impl Scenario {
             if self.takes_chance() {
                 self.spoiled(&sheet);
             }
+            if self.brought_back[group_of(sheet.product as usize)] {
+                self.widened(&sheet);
+            }
             self.call(Call::Sheet(sheet.clone()));
             if self.takes_chance() {
                 self.stray_while_open();
@@ -166,6 +206,12 @@ impl Scenario {
         if call != *good {
             self.call_refused(Call::Sheet(call));
         }
+    }
+
+    fn widened(&mut self, good: &SheetCall) {
+        let book = self.writer.book();
+        let call = faults::widen(&mut self.random, book, good);
+        self.call_refused(Call::Sheet(call));
     }
 
     /// Writes a call only if the book refuses it.

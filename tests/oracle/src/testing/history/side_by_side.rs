@@ -2,6 +2,7 @@
 
 use super::calendar::calendar;
 use super::compare::{lines, shown};
+use super::listing::Collected;
 use super::pace;
 use super::temper::{self, Temper};
 use super::text;
@@ -15,8 +16,9 @@ use crate::testing::random::Random;
 /// Each temper twice.
 pub const PAIRS_A_GROUP: u64 = 2 * temper::TURNS;
 
-/// One pair in so many is led into a season that gives its group new limits, which few draws reach.
-const RENEWED: u64 = 4;
+/// Of so many pairs one is led into a season that gives its group new limits, and another into a season that gives them
+/// to other groups on one side alone; few draws reach either.
+const LED: u64 = 4;
 
 const DAYS: usize = 60;
 
@@ -54,8 +56,10 @@ pub fn pair(group: usize, seed: u64) -> Pair {
     if random.one_in(2) {
         second.temper.limits = first.temper.limits;
     }
-    if seed.is_multiple_of(RENEWED) {
-        temper::renew(&mut random, &mut first.temper, GROUPS[group]);
+    match seed % LED {
+        0 => renew(&mut random, first, group),
+        1 => renew_others(&mut random, [first, second]),
+        _ => {}
     }
     sides.iter_mut().for_each(Side::found);
     let mut pair = Pair { group, sides };
@@ -63,15 +67,33 @@ pub fn pair(group: usize, seed: u64) -> Pair {
     pair
 }
 
+/// Into a season that gives the group new limits; its sheets are the first side's on both.
+fn renew(random: &mut Random, first: &mut Side, group: usize) {
+    temper::turn_season(random, &mut first.temper);
+    temper::collect(&mut first.temper, GROUPS[group], Collected::Behind(0));
+}
+
+/// Into a season that gives no new limits on the first side, and on the second to every group whose sheets are its own.
+fn renew_others(random: &mut Random, [first, second]: [&mut Side; 2]) {
+    temper::turn_season(random, &mut first.temper);
+    for products in GROUPS {
+        temper::collect(&mut first.temper, products, Collected::Never);
+        temper::collect(&mut second.temper, products, Collected::Behind(0));
+    }
+}
+
 impl Pair {
     fn live(&mut self, random: &mut Random) {
         let mut today = self.sides[0].temper.first_day;
+        let pace = self.sides[0].temper.pace;
         for ended in 1..=DAYS {
+            for side in &mut self.sides {
+                side.temper.market.phase = pace.phase(ended);
+            }
             let agreed = self.agree(random, today);
             for side in &mut self.sides {
                 side.day(self.group, &agreed, ended < DAYS);
             }
-            let pace = self.sides[0].temper.pace;
             let left = agreed.opening[3];
             match pace::next_day(random, pace, (today, left), ended) {
                 Some(next) => today = next,
@@ -258,6 +280,7 @@ impl Side {
 #[cfg(test)]
 mod tests {
     use super::*;
+    use crate::book::{Level, Standing};
     use crate::history::replay::answers;
     use crate::refusal::Refusal;
 
@@ -315,6 +338,82 @@ mod tests {
                 let times = pairs.iter().filter(|pair| pair.contains(&wanted)).count();
                 assert!(times >= SEVERAL, "group {group}: {wanted:?} in {times}");
             }
+        }
+    }
+
+    /// An accepted opening, and where the groups stood before and after it.
+    struct Opened {
+        answer: String,
+        before: [Standing; GROUP_COUNT],
+        after: [Standing; GROUP_COUNT],
+    }
+
+    impl Opened {
+        fn renews(&self, group: usize) -> bool {
+            let renewed = view::part(Kind::Opened, group, &self.answer);
+            renewed.is_some_and(|renewed| renewed.contains('1'))
+        }
+
+        fn brings_back(&self, group: usize) -> bool {
+            let levels = [self.before, self.after].map(|standings| standings[group].level);
+            levels == [Level::Expanded, Level::Initial]
+        }
+
+        fn keeps_expanded(&self, group: usize) -> bool {
+            let standings = [self.before, self.after].map(|standings| standings[group]);
+            standings[0].level == Level::Expanded && standings[0] == standings[1]
+        }
+    }
+
+    fn openings(side: &Side) -> Vec<Opened> {
+        let mut book: Option<Book> = None;
+        let mut openings = Vec::new();
+        for line in lines(&side.text) {
+            let before = book.as_ref().map(|book| book.standings);
+            let answer = answer::answer_line(&mut book, line).expect("every line is a call");
+            if answer.starts_with("opened") {
+                openings.push(Opened {
+                    answer,
+                    before: before.expect("a book was founded"),
+                    after: book.as_ref().expect("a book was founded").standings,
+                });
+            }
+        }
+        openings
+    }
+
+    /// Whether some opening is wanted as the two sides made it.
+    fn has_opening(pair: &Pair, is_wanted: impl Fn(&Opened, &Opened) -> bool) -> bool {
+        let [first, second] = pair.sides.each_ref().map(openings);
+        assert_eq!(first.len(), second.len(), "the sides agree on openings");
+        let mut both = first.iter().zip(&second);
+        both.any(|(first, second)| is_wanted(first, second))
+    }
+
+    fn assert_several(group: usize, is_wanted: impl Fn(&Opened, &Opened) -> bool) {
+        let pairs = (0..PAIRS_A_GROUP).map(|seed| pair(group, seed));
+        let times = pairs.filter(|pair| has_opening(pair, &is_wanted)).count();
+        assert!(times >= SEVERAL, "group {group}: {times}");
+    }
+
+    #[test]
+    fn several_pairs_of_each_group_bring_it_back() {
+        for group in 0..GROUP_COUNT {
+            assert_several(group, |first, second| {
+                first.brings_back(group) && second.brings_back(group)
+            });
+        }
+    }
+
+    #[test]
+    fn several_pairs_of_each_group_keep_it_expanded_while_one_side_renews_others() {
+        for group in 0..GROUP_COUNT {
+            let others = || (0..GROUP_COUNT).filter(|&other| other != group);
+            let renews_others = |side: &Opened| others().any(|other| side.renews(other));
+            assert_several(group, |first, second| {
+                let is_kept = first.keeps_expanded(group) && second.keeps_expanded(group);
+                is_kept && renews_others(first) != renews_others(second)
+            });
         }
     }
 

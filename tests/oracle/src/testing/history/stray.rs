@@ -73,6 +73,15 @@ pub fn order_of(random: &mut Random, book: &Book, product: usize) -> [u32; 4] {
     [product as u32, size, month, price]
 }
 
+/// An order at an end of the span that the expanded level gives.
+pub fn wide_order(random: &mut Random, book: &Book, product: usize) -> [u32; 4] {
+    let [number, size, month, _] = order_of(random, book, product);
+    let tick = PRODUCTS[product].tick(size).unwrap_or(1);
+    let last = book.last_settlement(product, month).unwrap_or(6_000);
+    let Span { lowest, highest } = Span::around(last, book.limits[product].expanded, tick);
+    [number, size, month, random.pick(&[lowest, highest])]
+}
+
 /// A month of the last ended sheet; any, where there is none.
 fn listed_month(random: &mut Random, book: &Book, product: usize) -> u32 {
     match &book.last_ended[product] {

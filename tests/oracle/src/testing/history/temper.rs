@@ -1,10 +1,12 @@
 //! The temper of a history: its founding, its listings, its pace and how much goes wrong.
 
 use super::calendar::calendar;
-use super::listing::Custom;
+use super::listing::{Collected, Custom};
 use super::market::Market;
-use super::pace::Pace;
+use super::pace::{Pace, Phase};
 use super::stray;
+use crate::book::sheet::LARGEST_SHEET;
+use crate::book::window::LARGEST_WINDOW;
 use crate::book::GROUPS;
 use crate::products::PRODUCTS;
 use crate::testing::random::Random;
@@ -28,7 +30,8 @@ pub const TURNS: u64 = 7;
 pub fn draw(random: &mut Random, seed: u64) -> Temper {
     let mut temper = common(random);
     match seed % TURNS {
-        0 | 1 => live_through_seasons(random, &mut temper),
+        0 => live_through_seasons(random, &mut temper),
+        1 => fill_some_windows(random, &mut temper, seed / TURNS),
         2 => go_wrong(random, &mut temper),
         3 => near_the_largest(random, &mut temper),
         4 => temper.pace = Pace::MonthEnds,
@@ -56,6 +59,7 @@ pub fn market(random: &mut Random) -> Market {
         customs: std::array::from_fn(|product| custom(random, product)),
         driver: None,
         calm: 1,
+        phase: Phase::Middle,
     }
 }
 
@@ -69,6 +73,7 @@ fn custom(random: &mut Random, product: usize) -> Custom {
         leaves_out: random.pick(&[3, 5, 8, 1_000]),
         drops_spot: random.pick(&[1, 2, 2, 4]),
         is_far: random.one_in(6),
+        collected: Collected::Any,
         price: random.pick(&[low, middle, middle, middle, high]),
     }
 }
@@ -90,22 +95,51 @@ fn live_through_seasons(random: &mut Random, temper: &mut Temper) {
     }
 }
 
-/// A year's contracts of any product, so that the collected one is among them, and a far one.
-const A_YEAR: usize = 9;
-
 /// One in so many is none.
 const NEVER: usize = usize::MAX;
 
-/// Fills the windows of these products in one season, so that the next gives them new limits.
-pub fn renew(random: &mut Random, temper: &mut Temper, products: &[usize]) {
+/// Seasons that give new limits to some products and not to others; every other turn to one of the Complex alone.
+fn fill_some_windows(random: &mut Random, temper: &mut Temper, turn: u64) {
+    live_through_seasons(random, temper);
+    let stay = random.pick(&[46, 46, 47, 48]);
+    temper.pace = Pace::Seasons(stay);
+    // Without moods limits stay what they are, and season limits can be equal to them.
+    temper.market.calm = random.pick(&[1, NEVER]);
+    // The first season is a day shorter than the others.
+    let one_short = Collected::Behind(stay - LARGEST_WINDOW);
+    let later = Collected::Behind(20);
+    let alone = GROUPS[1][turn as usize / 2 % GROUPS[1].len()];
+    for (product, custom) in temper.market.customs.iter_mut().enumerate() {
+        let is_full = match GROUPS[1].contains(&product) && turn.is_multiple_of(2) {
+            true => product == alone,
+            false => random.one_in(2),
+        };
+        custom.contracts = random.pick(&[4, 9, 12]);
+        custom.collected = match is_full {
+            true => Collected::Behind(0),
+            false => random.pick(&[one_short, later, later, Collected::Never]),
+        };
+    }
+}
+
+/// A year's contracts of any product, a far one among them.
+const A_YEAR: usize = 9;
+
+/// Lives through one season and on into the next.
+pub fn turn_season(random: &mut Random, temper: &mut Temper) {
     temper.first_day = season_start(random);
     // A small left would cut months short, and so the windows.
     temper.has_strange_left = false;
     temper.pace = Pace::NextSeason(random.pick(&[46, 47, 52, 60]));
+}
+
+/// Has these products list their collected contracts so, among a year's at least.
+pub fn collect(temper: &mut Temper, products: &[usize], collected: Collected) {
     for &product in products {
         let custom = &mut temper.market.customs[product];
-        custom.contracts = custom.contracts.max(A_YEAR);
-        custom.leaves_out = NEVER;
+        // There has to be room for the collected one.
+        custom.contracts = custom.contracts.clamp(A_YEAR, LARGEST_SHEET - 1);
+        custom.collected = collected;
     }
 }
 

@@ -1,5 +1,6 @@
 //! What checks and bare checks reached.
 
+use super::seasons::Turn;
 use super::spans::Limited;
 use super::{refusal, Coverage, Seen};
 use crate::amounts::{self, LARGEST_LIMIT};
@@ -9,7 +10,7 @@ use crate::dates::{is_spot, Date};
 use crate::prices::is_price;
 use crate::products::product;
 
-const WANTED: [&str; 40] = [
+const WANTED: [&str; 45] = [
     "check: refused 2",
     "check: refused 5, no such product",
     "check: refused 5, size not offered",
@@ -33,6 +34,11 @@ const WANTED: [&str; 40] = [
     "check: within, initial level",
     "check: within, expanded level",
     "check: within by E but not by I",
+    "check: within by E but not by I, kept over a season",
+    "check: below in a group brought back, within E",
+    "check: above in a group brought back, within E",
+    "check: below in a group brought back by others, within E",
+    "check: above in a group brought back by others, within E",
     "check: below, initial level",
     "check: below, expanded level",
     "check: above, initial level",
@@ -184,11 +190,31 @@ fn observe_limited(coverage: &mut Coverage, numbers: &[u32; 4], seen: &Seen) {
         coverage.count(format!("check: an end clamped, {level}"));
     }
     coverage.count_if(order.limit == LARGEST_LIMIT, "check: at the largest limit");
+    let limits = book.limits[number];
     let distance = order.price.abs_diff(order.settlement);
-    coverage.count_if(
-        distance > book.limits[number].initial && distance <= order.limit,
-        "check: within by E but not by I",
-    );
+    if distance > limits.initial && distance <= limits.expanded {
+        observe_between(coverage, number, verdict);
+    }
+}
+
+/// A price that the levels judge differently.
+fn observe_between(coverage: &mut Coverage, number: usize, verdict: &str) {
+    coverage.count_if(verdict == "within", "check: within by E but not by I");
+    match (coverage.turns[group_of(number)], verdict) {
+        (Turn::KeptNext | Turn::KeptSkipped, "within") => {
+            coverage.count("check: within by E but not by I, kept over a season");
+        }
+        (Turn::BroughtBack, "below" | "above") => {
+            let by = match coverage.renewed[number] {
+                true => "",
+                false => " by others",
+            };
+            coverage.count(format!(
+                "check: {verdict} in a group brought back{by}, within E"
+            ));
+        }
+        _ => {}
+    }
 }
 
 /// The word of a verdict, without its span.

@@ -1,5 +1,6 @@
 //! What ends reached: events with their leads and edges, and windows.
 
+use super::seasons::Turn;
 use super::{Coverage, Seen};
 use crate::amounts::LARGEST_LIMIT;
 use crate::book::end::Move;
@@ -28,7 +29,7 @@ const EDGES: [&str; 8] = [
     "reverted with a move one tick below I",
 ];
 
-const WANTED: [&str; 15] = [
+const WANTED: [&str; 19] = [
     "end: refused 2",
     "end: 2 over 12",
     "end: refused 12, none in",
@@ -37,7 +38,11 @@ const WANTED: [&str; 15] = [
     "end: a spot contract moved by I or more on a quiet day",
     "end: the lowest product leads among contracts of a month",
     "end: a month of 2^31 or more leads",
-    "end: raised by a mark carried over a season",
+    "end: raised by a mark kept into the next season, no new limits",
+    "end: raised by a mark kept over a skipped season, a window full",
+    "end: held and marked by the first move of E after a dropped mark",
+    "end: quiet on a day that brought the group back",
+    "end: triggered on a day that brought the group back",
     "end: raised to I = E = 2000000",
     "end: raised to I below E = 2000000",
     "window: collects on 15 April",
@@ -97,11 +102,11 @@ pub fn observe(coverage: &mut Coverage, seen: &Seen) {
     for (group, word) in seen.answer.split(' ').skip(1).enumerate() {
         let moves = seen.before.moves(group, date, left);
         observe_event(coverage, seen, group, word);
+        observe_turn(coverage, seen, group, word, &moves);
         observe_lead(coverage, word, &moves);
         observe_edges(coverage, seen.before, group, word, &moves);
         observe_spot(coverage, seen.before, group, word, (date, left));
     }
-    coverage.carried_marks = [false; GROUP_COUNT];
     for product in 0..PRODUCT_COUNT {
         observe_window(coverage, seen.before, product, date);
     }
@@ -136,8 +141,6 @@ fn observe_event(coverage: &mut Coverage, seen: &Seen, group: usize, word: &str)
     if event != "raised" {
         return;
     }
-    let is_carried = coverage.carried_marks[group];
-    coverage.count_if(is_carried, "end: raised by a mark carried over a season");
     for &product in GROUPS[group] {
         let limits = seen.after.limits[product];
         let is_largest = limits.expanded == LARGEST_LIMIT;
@@ -148,6 +151,32 @@ fn observe_event(coverage: &mut Coverage, seen: &Seen, group: usize, word: &str)
             "end: raised to I below E = 2000000",
         );
     }
+}
+
+/// What the first days after a change of season made of a group.
+fn observe_turn(coverage: &mut Coverage, seen: &Seen, group: usize, word: &str, moves: &[Move]) {
+    match (coverage.turns[group], name(word)) {
+        (Turn::KeptNext, "raised") => {
+            coverage.count("end: raised by a mark kept into the next season, no new limits");
+        }
+        (Turn::KeptSkipped, "raised") => {
+            coverage.count("end: raised by a mark kept over a skipped season, a window full");
+        }
+        (Turn::BroughtBack, event @ ("quiet" | "triggered")) => {
+            coverage.count(format!("end: {event} on a day that brought the group back"));
+        }
+        _ => {}
+    }
+    let limits = |one: &Move| seen.before.limits[one.contract.product];
+    let is_at_e = moves.iter().any(|one| one.size == limits(one).expanded);
+    if !is_at_e || !coverage.dropped_marks[group] {
+        return;
+    }
+    coverage.dropped_marks[group] = false;
+    coverage.count_if(
+        name(word) == "held" && seen.after.standings[group].marked,
+        "end: held and marked by the first move of E after a dropped mark",
+    );
 }
 
 fn observe_lead(coverage: &mut Coverage, word: &str, moves: &[Move]) {

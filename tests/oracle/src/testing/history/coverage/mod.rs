@@ -3,19 +3,25 @@
 mod checks;
 mod ends;
 mod openings;
+mod seasons;
 mod sheets;
 mod spans;
 
 use std::collections::BTreeMap;
 
-use crate::book::{Book, GROUP_COUNT};
+use crate::book::{Book, GROUP_COUNT, PRODUCT_COUNT};
 use crate::history::call::Call;
+use seasons::Turn;
 
 #[derive(Clone, Default)]
 pub struct Coverage {
     pub counts: BTreeMap<String, usize>,
-    /// Groups whose mark was carried over a season change by the last opening.
-    carried_marks: [bool; GROUP_COUNT],
+    /// What the last opening made of each group.
+    turns: [Turn; GROUP_COUNT],
+    /// The products that the last opening gave new limits.
+    renewed: [bool; PRODUCT_COUNT],
+    /// Groups whose mark was dropped by new limits, and that have not moved by E since.
+    dropped_marks: [bool; GROUP_COUNT],
 }
 
 /// A call with the answer that the model gave, and the book before and after it.
@@ -118,10 +124,14 @@ impl Coverage {
         self.count_if(is_marked, "book: line with a mark");
         let is_full = book.windows.iter().any(|window| window.len() == 45);
         self.count_if(is_full, "book: line with a full window");
+        self.count_if(
+            book.is_open && self.turns.contains(&Turn::BroughtBack),
+            "book: line on a day that brought a group back",
+        );
     }
 }
 
-const OWN: [&str; 16] = [
+const OWN: [&str; 17] = [
     "found: founded",
     "found: founded afresh",
     "found: refused 13 without a book",
@@ -132,6 +142,7 @@ const OWN: [&str; 16] = [
     "book: line after an end",
     "book: line with a mark",
     "book: line with a full window",
+    "book: line on a day that brought a group back",
     "format: no book",
     "format: not a call",
     "format: blank line",
@@ -144,6 +155,7 @@ const OWN: [&str; 16] = [
 pub fn wanted() -> Vec<String> {
     let own = OWN.iter().map(|what| what.to_string());
     own.chain(openings::wanted())
+        .chain(seasons::wanted())
         .chain(sheets::wanted())
         .chain(ends::wanted())
         .chain(checks::wanted())

@@ -1,12 +1,10 @@
-//! What openings reached: refusals in order, season changes, dates.
+//! What openings reached: refusals in order, dates and lefts.
 
-use super::{Coverage, Seen};
-use crate::book::window::LARGEST_WINDOW;
-use crate::book::{Book, Level, PRODUCT_COUNT};
+use super::{seasons, Coverage, Seen};
+use crate::book::Book;
 use crate::dates::Date;
-use crate::products::PRODUCTS;
 
-const WANTED: [&str; 44] = [
+const WANTED: [&str; 32] = [
     "open: refused 2",
     "open: refused 3, false date",
     "open: refused 3, 29 February",
@@ -39,24 +37,10 @@ const WANTED: [&str; 44] = [
     "open: year 2098",
     "open: first day of the calendar",
     "open: last day of the calendar",
-    "season: next, in May",
-    "season: next, in November",
-    "season: next, with 1 to 44 in a window",
-    "season: next, with an empty window",
-    "season: next, some products renewed and some not",
-    "season: next, limits changed",
-    "season: next, limits equal",
-    "season: next, limit at the floor",
-    "season: skipped, with a full window",
-    "season: change empties a window",
-    "season: expanded level carried over",
-    "season: mark carried over",
 ];
 
 pub fn wanted() -> Vec<String> {
-    let renewed = (0..PRODUCT_COUNT).map(|product| format!("season: product {product} renewed"));
-    let fixed = WANTED.iter().map(|what| what.to_string());
-    fixed.chain(renewed).collect()
+    WANTED.iter().map(|what| what.to_string()).collect()
 }
 
 pub fn observe(coverage: &mut Coverage, numbers: &[u32; 4], seen: &Seen) {
@@ -128,7 +112,10 @@ fn observe_not_later(coverage: &mut Coverage, numbers: &[u32; 4], book: &Book) {
 fn observe_opened(coverage: &mut Coverage, seen: &Seen) {
     let (date, left) = seen.after.last_opened().expect("a day is open");
     observe_date(coverage, date, left);
+    coverage.turns = Default::default();
+    coverage.renewed = Default::default();
     let Some((last, before)) = seen.before.last_opened() else {
+        coverage.dropped_marks = Default::default();
         return coverage.count("open: first opening");
     };
     match date.is_in_month_of(last) {
@@ -139,21 +126,8 @@ fn observe_opened(coverage: &mut Coverage, seen: &Seen) {
         false => observe_other_month(coverage, (last, before), (date, left)),
     }
     let seasons = date.season() - last.season();
-    coverage.carried_marks = seen.before.standings.map(|one| one.marked && seasons > 0);
-    if seasons == 0 {
-        return;
-    }
-    observe_carried(coverage, seen);
-    match seasons {
-        1 => observe_next_season(coverage, seen, date),
-        _ => {
-            let full = seen
-                .before
-                .windows
-                .iter()
-                .any(|one| one.len() == LARGEST_WINDOW);
-            coverage.count_if(full, "season: skipped, with a full window");
-        }
+    if seasons > 0 {
+        seasons::observe(coverage, seen, seasons, date);
     }
 }
 
@@ -193,49 +167,4 @@ fn observe_date(coverage: &mut Coverage, date: Date, left: u32) {
     coverage.count_if(date.year() == 2098, "open: year 2098");
     coverage.count_if(date.word() == 20000101, "open: first day of the calendar");
     coverage.count_if(date.word() == 20981231, "open: last day of the calendar");
-}
-
-fn observe_carried(coverage: &mut Coverage, seen: &Seen) {
-    let emptied = seen.before.windows.iter().any(|window| !window.is_empty());
-    coverage.count_if(emptied, "season: change empties a window");
-    let standings = seen.after.standings;
-    let expanded = standings.iter().any(|one| one.level == Level::Expanded);
-    coverage.count_if(expanded, "season: expanded level carried over");
-    let marked = standings.iter().any(|one| one.marked);
-    coverage.count_if(marked, "season: mark carried over");
-}
-
-fn observe_next_season(coverage: &mut Coverage, seen: &Seen, date: Date) {
-    let is_summer = (5..=10).contains(&date.month());
-    let lengths = seen.before.windows.each_ref().map(Vec::len);
-    let renewed = lengths
-        .iter()
-        .filter(|&&length| length == LARGEST_WINDOW)
-        .count();
-    if renewed > 0 {
-        coverage.count(match is_summer {
-            true => "season: next, in May",
-            false => "season: next, in November",
-        });
-    }
-    let is_mixed = renewed > 0 && renewed < PRODUCT_COUNT;
-    coverage.count_if(is_mixed, "season: next, some products renewed and some not");
-    for (product, length) in lengths.into_iter().enumerate() {
-        match length {
-            0 => coverage.count("season: next, with an empty window"),
-            LARGEST_WINDOW => observe_renewed(coverage, seen, product),
-            _ => coverage.count("season: next, with 1 to 44 in a window"),
-        }
-    }
-}
-
-fn observe_renewed(coverage: &mut Coverage, seen: &Seen, product: usize) {
-    coverage.count(format!("season: product {product} renewed"));
-    let limits = seen.after.limits[product];
-    let floor = PRODUCTS[product].floor;
-    coverage.count_if(limits.initial == floor, "season: next, limit at the floor");
-    coverage.count(match limits == seen.before.limits[product] {
-        true => "season: next, limits equal",
-        false => "season: next, limits changed",
-    });
 }

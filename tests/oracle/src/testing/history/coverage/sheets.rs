@@ -1,5 +1,6 @@
 //! What sheets reached: refusals in order, by entry too, and the shapes that were filed.
 
+use super::seasons::Turn;
 use super::{Coverage, Seen};
 use crate::amounts::LARGEST_LIMIT;
 use crate::book::groups::group_of;
@@ -10,7 +11,7 @@ use crate::history::call::SheetCall;
 use crate::prices::{is_price, LARGEST_PRICE};
 use crate::products::{product, Product};
 
-const WANTED: [&str; 37] = [
+const WANTED: [&str; 39] = [
     "sheet: refused 2",
     "sheet: refused 5",
     "sheet: refused 11",
@@ -33,6 +34,8 @@ const WANTED: [&str; 37] = [
     "sheet: refused 10, down",
     "sheet: refused 10, by one tick",
     "sheet: refused 10, at the expanded level",
+    "sheet: refused 10 in a group brought back, within E",
+    "sheet: refused 10 in a group brought back by others, within E",
     "sheet: filed with 1 entry",
     "sheet: filed with 16 entries",
     "sheet: filed on a first day",
@@ -252,6 +255,24 @@ fn observe_beyond(coverage: &mut Coverage, call: &SheetCall, book: &Book, place:
     coverage.count_if(is_one_tick, "sheet: refused 10, by one tick");
     let is_expanded = book.standings[group_of(number)].level == Level::Expanded;
     coverage.count_if(is_expanded, "sheet: refused 10, at the expanded level");
+    if coverage.turns[group_of(number)] == Turn::BroughtBack {
+        observe_brought_back(coverage, call, book);
+    }
+}
+
+/// A sheet that the group's level before would have allowed.
+fn observe_brought_back(coverage: &mut Coverage, call: &SheetCall, book: &Book) {
+    let number = call.product as usize;
+    let mut expanded = book.clone();
+    expanded.standings[group_of(number)].level = Level::Expanded;
+    let filed = expanded.file(call.product, &call.months, &call.settlements);
+    if filed.is_err() {
+        return;
+    }
+    coverage.count(match coverage.renewed[number] {
+        true => "sheet: refused 10 in a group brought back, within E",
+        false => "sheet: refused 10 in a group brought back by others, within E",
+    });
 }
 
 fn observe_filed(coverage: &mut Coverage, call: &SheetCall, book: &Book) {
