@@ -37,7 +37,7 @@ no-limit b p h = rw (no-group p h)
 
 pub level-is : (b : Book) (p : ℕ) → p < 8 → groupAt (view b) (groupOf p) .level ≡ levelOf (standingIn b (groupOf p) .expanded)
 unfolding viewGroup
-level-is b p l = ap (λ (g : Group). g .level) (group-is b p l)
+level-is b p l = ap (λ (g : Group). g .level) (group-is b (groupOf p) (group-small p l))
 
 pub limit-is : (b : Book) (p : ℕ) → p < 8
     → todaysLimit (groupAt (view b) (groupOf p)) p

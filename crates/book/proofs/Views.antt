@@ -37,11 +37,10 @@ each-group P a b c d e f (suc (suc (suc (suc zero)))) l = e
 each-group P a b c d e f (suc (suc (suc (suc (suc zero))))) l = f
 each-group P a b c d e f (suc (suc (suc (suc (suc (suc g)))))) l = let z : ⊥ = omega arith in absurd z
 
--- a product's group, and the product in it
-pub group-is : (b : Book) (p : ℕ) → p < 8
-    → groupAt (view b) (groupOf p) ≡ viewGroup b (groupOf p) (productsOf (groupOf p))
+-- a group, and a product in its own
+pub group-is : (b : Book) (g : ℕ) → g < 6 → groupAt (view b) g ≡ viewGroup b g (productsOf g)
 unfolding view groupTable
-group-is b = each _ refl refl refl refl refl refl refl refl
+group-is b = each-group _ refl refl refl refl refl refl
 
 pub product-is : (b : Book) (p : ℕ) → p < 8 → productIn (groupAt (view b) (groupOf p)) p ≡ viewProduct b p
 unfolding view groupTable viewGroup viewProduct

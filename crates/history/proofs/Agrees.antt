@@ -16,6 +16,7 @@ use Rattle.record.specs.Theorems.{after, historyOf, OneLevel, BetweenLimits, Re
 use Rattle.record.proofs.Proved.{theorems}
 use Rattle.book.specs.declared.Book.{Book}
 use Rattle.book.specs.Book.{viewProduct, viewGroup, viewCommon, view}
+use Rattle.book.proofs.Groups.{group-small}
 use Rattle.book.proofs.Views.{group-is, product-is}
 use Rattle.history.specs.Whole.{SameProduct, SameContents}
 
@@ -24,7 +25,7 @@ product-same : (z : Book) (p : ℕ) → p < 8 → SameProduct z (view z) p
 unfolding viewProduct viewGroup
 product-same z p l =
     let q = sym (product-is z p l) in
-    let g = sym (group-is z p l) in
+    let g = sym (group-is z (groupOf p) (group-small p l)) in
     record {
       initialLimit = ap (λ (q : Product). q .initialLimit) q;
       expandedLimit = ap (λ (q : Product). q .expandedLimit) q;

@@ -28,8 +28,7 @@ pub record OpenedOn (b : Book) (d : Day) (z : Book) : Type 0 where
   pub limits : (p : ℕ) → p < 8
       → limitIn z p ≡ limitOn (isNextSeason (openedOf (b .day)) d) (windowOf (b .windows) p) p (limitIn b p)
   pub windows : (p : ℕ) → windowOf (z .windows) p ≡ cond (isOtherSeason (openedOf (b .day)) d) [] (windowOf (b .windows) p)
-  pub standings : (g : ℕ) → g < 6
-      → standingIn z g ≡ standingOn (any (renewedOn b d) (productsOf g)) (standingIn b g)
+  pub standings : (g : ℕ) → g < 6 → standingIn z g ≡ standingOn (any (renewedOn b d) (productsOf g)) (standingIn b g)
   pub today : z .today ≡ b .today
   pub last : z .last ≡ b .last
   pub day : z .day ≡ d

@@ -2,7 +2,7 @@
 use Prim.Native.Nat.{ℕ, _+_, _<_, _≤_}
 use mathlib.Core.Path.{_≡_, refl, sym, _∙_, ap}
 use mathlib.Core.Bool.{Bool, true, false, _&&_, _||_}
-use mathlib.Core.List.{List, [], _∷_, map}
+use mathlib.Core.List.{List, map}
 use lib.Dec.{eqb}
 use lib.ListN.{length, getD, set, drop, length-set, drop-of-length-le}
 use lib.Seq.{getD-set-same, getD-set-other}
@@ -32,7 +32,7 @@ pub record StartedTo (renewed : List Bool) (old : ℕ → Standing) (p : ℕ) (x
 pub started-first : (renewed : List Bool) (xs : List Standing) → length xs ≡ 6 → StartedTo renewed (λ g. getD xs g noStanding) 0 xs
 started-first renewed xs long = record { long = long; at = λ g l. refl }
 
--- once or twice is the same
+-- two in a row are one
 twice : (a b : Bool) (s : Standing) → standingOn b (standingOn a s) ≡ standingOn (a || b) s
 twice true true s = refl
 twice true false s = refl

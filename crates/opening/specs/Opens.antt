@@ -43,7 +43,7 @@ limitOn renews window p limit =
     (record { initial = seasonOf p window; expanded = expandedOf p (seasonOf p window) })
     limit
 
--- the answers to the eight products say yes for one of these
+-- the answers for the eight products say yes for one of these
 abbrev pub isOneRenewed : List Bool → List ℕ → Bool
 isOneRenewed renewed ps = any (λ p. getD renewed p false) ps
 

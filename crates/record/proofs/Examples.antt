@@ -158,10 +158,10 @@ aBookWith windows =
     }
 
 -- a settlement of each product
-abbrev pub usualSettlement : ℕ → ℕ
+abbrev usualSettlement : ℕ → ℕ
 usualSettlement p = getD (6000 ∷ 8000 ∷ 5000 ∷ 4000 ∷ 4000 ∷ 4000 ∷ 1920 ∷ 3000 ∷ []) p 0
 
--- the book with so many of it in the window of each product
+-- the same book with so many of it in each window
 abbrev pub collectedBy : (ℕ → ℕ) → Record
 collectedBy counts = aBookWith (λ p. replicate (counts p) (usualSettlement p))
 

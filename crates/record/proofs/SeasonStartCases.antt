@@ -6,9 +6,9 @@ use mathlib.Core.List.{List, [], _∷_, _++_, map}
 use lib.Dec.{eqb}
 use Rattle.grain.specs.declared.check.Verdict.the-variants.{Within, Above}
 use Rattle.record.specs.State.{Day, Record, initial, expanded}
-use Rattle.record.specs.End.{Quiet, Triggered, Held, Raised}
+use Rattle.record.specs.End.{Event, Quiet, Triggered, Held, Raised}
 use Rattle.record.specs.Record.{Call, opening, check, refused, opened, filed, checked}
-use Rattle.record.proofs.Examples.{corn, soybeans, oil, meal, chicagoWheat, kcWheat, oats, rice, cornGroup, complex, chicagoGroup, oatsGroup, jul25, on, collectedBy, collected, oneContract, fullDay, stateOf, answersAfter, span, limits, lead, outcome, in-one-run}
+use Rattle.record.proofs.Examples.{corn, soybeans, oil, meal, chicagoWheat, kcWheat, oats, rice, cornGroup, complex, chicagoGroup, oatsGroup, jul25, on, collectedBy, collected, oneContract, fullDay, stateOf, answersAfter, span, Limits, limits, lead, Outcome, outcome, in-one-run}
 
 -- a day with these July 2025 settlements of Corn, Oil, Chicago Wheat and Oats; no other product moves
 abbrev fourMove : Day → ℕ → ℕ → ℕ → ℕ → List Call
@@ -32,35 +32,28 @@ may1 = on 2025 5 1 21
 abbrev fullFor : ℕ → Record
 fullFor p = collectedBy (λ q. cond (eqb q p) 42 0)
 
--- every group expanded and marked, every window full, and no day yet
-abbrev allMarked : Record
-allMarked =
-    record {
-      common = collected 45 .common;
-      groups = map (λ g. record { level = expanded; mark = true; products = g .products }) (collected 45 .groups);
-    }
+-- the events of these days, led by a product
+abbrev marking : ℕ → List Event
+marking p = Quiet ∷ Triggered (lead p jul25) ∷ Held (lead p jul25) ∷ []
+
+-- what they leave of its group, which an opening then keeps
+abbrev marked : ℕ → List Limits → Outcome
+marked p ls = record { events = marking p; level = expanded; mark = true; limits = ls }
+
+-- or brings back
+abbrev narrow : ℕ → List Limits → Outcome
+narrow p ls = record { events = marking p; level = initial; mark = false; limits = ls }
 
 -- ---- one product's full window moves its whole group
 pub markedComplex :
-    outcome (fullFor oil) complex february
-    ≡ record {
-      events = Quiet ∷ Triggered (lead oil jul25) ∷ Held (lead oil jul25) ∷ [];
-      level = expanded;
-      mark = true;
-      limits = limits 400 600 ∷ limits 200 300 ∷ limits 200 300 ∷ [];
-    }
+    outcome (fullFor oil) complex february ≡ marked oil (limits 400 600 ∷ limits 200 300 ∷ limits 200 300 ∷ [])
 unfolding stateOf
 markedComplex = in-one-run _ _ _ _ refl
 
 -- Oil alone gets new limits, and all three come back; Soybeans and Meal keep their limits
 pub oilAlone :
     outcome (fullFor oil) complex (february ++ opening may1 ∷ [])
-    ≡ record {
-      events = Quiet ∷ Triggered (lead oil jul25) ∷ Held (lead oil jul25) ∷ [];
-      level = initial;
-      mark = false;
-      limits = limits 400 600 ∷ limits 350 550 ∷ limits 200 300 ∷ [];
-    }
+    ≡ narrow oil (limits 400 600 ∷ limits 350 550 ∷ limits 200 300 ∷ [])
 unfolding stateOf
 oilAlone = in-one-run _ _ _ _ refl
 
@@ -93,79 +86,48 @@ pub equalAnswer :
 unfolding stateOf
 equalAnswer = refl
 
-pub equalLimits :
-    outcome (fullFor oats) oatsGroup (february ++ opening may1 ∷ [])
-    ≡ record {
-      events = Quiet ∷ Triggered (lead oats jul25) ∷ Held (lead oats jul25) ∷ [];
-      level = initial;
-      mark = false;
-      limits = limits 160 240 ∷ [];
-    }
+pub equalLimits : outcome (fullFor oats) oatsGroup (february ++ opening may1 ∷ []) ≡ narrow oats (limits 160 240 ∷ [])
 unfolding stateOf
 equalLimits = in-one-run _ _ _ _ refl
 
 -- ---- and no other group
-pub cornReset :
-    outcome (fullFor corn) cornGroup (february ++ opening may1 ∷ [])
-    ≡ record {
-      events = Quiet ∷ Triggered (lead corn jul25) ∷ Held (lead corn jul25) ∷ [];
-      level = initial;
-      mark = false;
-      limits = limits 440 680 ∷ [];
-    }
+pub cornReset : outcome (fullFor corn) cornGroup (february ++ opening may1 ∷ []) ≡ narrow corn (limits 440 680 ∷ [])
 unfolding stateOf
 cornReset = in-one-run _ _ _ _ refl
 
 -- Chicago Wheat keeps its level and mark over Corn's reset
 pub wheatStays :
-    outcome (fullFor corn) chicagoGroup (february ++ opening may1 ∷ [])
-    ≡ record {
-      events = Quiet ∷ Triggered (lead chicagoWheat jul25) ∷ Held (lead chicagoWheat jul25) ∷ [];
-      level = expanded;
-      mark = true;
-      limits = limits 240 360 ∷ [];
-    }
+    outcome (fullFor corn) chicagoGroup (february ++ opening may1 ∷ []) ≡ marked chicagoWheat (limits 240 360 ∷ [])
 unfolding stateOf
 wheatStays = in-one-run _ _ _ _ refl
 
 -- ---- no new limits, no reset
 -- 44 settlements in the window
-pub shortWindow :
-    outcome (collected 41) cornGroup (february ++ opening may1 ∷ [])
-    ≡ record {
-      events = Quiet ∷ Triggered (lead corn jul25) ∷ Held (lead corn jul25) ∷ [];
-      level = expanded;
-      mark = true;
-      limits = limits 200 320 ∷ [];
-    }
+pub shortWindow : outcome (collected 41) cornGroup (february ++ opening may1 ∷ []) ≡ marked corn (limits 200 320 ∷ [])
 unfolding stateOf
 shortWindow = in-one-run _ _ _ _ refl
 
 -- 45, and a season skipped
 pub twoSeasonsLater :
-    outcome (collected 42) cornGroup (february ++ opening (on 2025 11 3 19) ∷ [])
-    ≡ record {
-      events = Quiet ∷ Triggered (lead corn jul25) ∷ Held (lead corn jul25) ∷ [];
-      level = expanded;
-      mark = true;
-      limits = limits 200 320 ∷ [];
-    }
+    outcome (collected 42) cornGroup (february ++ opening (on 2025 11 3 19) ∷ []) ≡ marked corn (limits 200 320 ∷ [])
 unfolding stateOf
 twoSeasonsLater = in-one-run _ _ _ _ refl
 
 -- 45, and the same season
 pub laterInFebruary :
-    outcome (collected 42) cornGroup (february ++ opening (on 2025 2 17 8) ∷ [])
-    ≡ record {
-      events = Quiet ∷ Triggered (lead corn jul25) ∷ Held (lead corn jul25) ∷ [];
-      level = expanded;
-      mark = true;
-      limits = limits 200 320 ∷ [];
-    }
+    outcome (collected 42) cornGroup (february ++ opening (on 2025 2 17 8) ∷ []) ≡ marked corn (limits 200 320 ∷ [])
 unfolding stateOf
 laterInFebruary = in-one-run _ _ _ _ refl
 
--- 45, and the first opening: no list of calls leads there, but the book is sound
+-- every group expanded and marked, every window full, and no day yet: no list of calls leads there, but the book is sound
+abbrev allMarked : Record
+allMarked =
+    record {
+      common = collected 45 .common;
+      groups = map (λ g. record { level = expanded; mark = true; products = g .products }) (collected 45 .groups);
+    }
+
+-- 45, and the first opening
 pub firstOfAll :
     outcome allMarked cornGroup (opening may1 ∷ [])
     ≡ record { events = []; level = expanded; mark = true; limits = limits 200 320 ∷ [] }
@@ -188,13 +150,7 @@ may = fourMove may1 6960 5500 4600 2320 ++ fourMove (on 2025 5 2 20) 7640 5500 4
 pub notRaised :
     outcome (collected 42) cornGroup (february ++ may)
     ≡ record {
-      events =
-          Quiet
-          ∷ Triggered (lead corn jul25)
-          ∷ Held (lead corn jul25)
-          ∷ Triggered (lead corn jul25)
-          ∷ Held (lead corn jul25)
-          ∷ [];
+      events = marking corn ++ Triggered (lead corn jul25) ∷ Held (lead corn jul25) ∷ [];
       level = expanded;
       mark = true;
       limits = limits 440 680 ∷ [];
@@ -206,14 +162,7 @@ notRaised = in-one-run _ _ _ _ refl
 pub raisedByMay :
     outcome (collected 42) cornGroup (february ++ may ++ fourMove (on 2025 5 5 19) 8320 5500 4600 2320)
     ≡ record {
-      events =
-          Quiet
-          ∷ Triggered (lead corn jul25)
-          ∷ Held (lead corn jul25)
-          ∷ Triggered (lead corn jul25)
-          ∷ Held (lead corn jul25)
-          ∷ Raised (lead corn jul25)
-          ∷ [];
+      events = marking corn ++ Triggered (lead corn jul25) ∷ Held (lead corn jul25) ∷ Raised (lead corn jul25) ∷ [];
       level = initial;
       mark = false;
       limits = limits 680 1040 ∷ [];

@@ -156,12 +156,9 @@ impl<'a> Run<'a> {
             _ => times >= LEAST,
         });
         let outcomes = self.reached.judge(&OUTCOMES, |_, times| times >= LEAST);
-        // Damage seldom moves a settlement to where prices begin or end.
-        let ends = self
-            .reached
-            .judge(&ENDS, |_, times| can_be_unsound || times >= LEAST);
-        // The bases have all windows full, or none.
+        // Damage seldom moves a settlement to where prices begin or end, and what it damages has all windows full or none.
         let is_enough = |_, times| can_be_unsound || times >= LEAST;
+        let ends = self.reached.judge(&ENDS, is_enough);
         let turns = self.reached.judge(&TURNS, is_enough);
         let complex = self.reached.judge(&[COMPLEX], is_enough);
         score.one(
