@@ -3,7 +3,7 @@ use mathlib.Core.Path.{_≡_}
 use mathlib.Core.Bool.{true, false, cond}
 use lib.ListN.{replicate}
 use Rattle.grain.specs.Refusals.{unfitAmount}
-use Rattle.record.specs.State.{noDay}
+use Rattle.record.specs.State.{groupCount, maxContracts, noDay}
 use Rattle.record.specs.Founding.{Start, isFitStart, founded}
 use Rattle.sheets.specs.declared.Sheet.{Sheet}
 use Rattle.sheets.specs.Sheets.{noContract}
@@ -11,22 +11,23 @@ use Rattle.windows.specs.declared.Windows.{Windows}
 use Rattle.book.specs.declared.Book.{Book}
 use Rattle.book.specs.declared.founding.Founding.{Founding}
 use Rattle.book.specs.Book.{noLimit, noStanding, view}
+use Rattle.grain.specs.Products.{productCount}
 
 abbrev pub emptySheet : Sheet
-emptySheet = record { contracts = replicate 16 noContract; len = 0 }
+emptySheet = record { contracts = replicate maxContracts noContract; len = 0 }
 
 abbrev pub emptyWindows : Windows
-emptyWindows = record { settlements = replicate 360 0; sizes = replicate 8 0 }
+emptyWindows = record { settlements = replicate 360 0; sizes = replicate productCount 0 }
 
 -- what a refused founding returns: limits of 0 are unsound, so that every call on it is refused with 1
 unfoldable pub noBook : Book
 noBook =
     record {
-      limits = replicate 8 noLimit;
-      standings = replicate 6 noStanding;
+      limits = replicate productCount noLimit;
+      standings = replicate groupCount noStanding;
       windows = emptyWindows;
-      today = replicate 8 emptySheet;
-      last = replicate 8 emptySheet;
+      today = replicate productCount emptySheet;
+      last = replicate productCount emptySheet;
       day = noDay;
       «is_open» = false;
     }

@@ -7,7 +7,7 @@ use lib.Dec.{leb, eqb}
 use lib.ListN.{length, getD}
 use Rattle.grain.specs.Lists.{_and_, every}
 use Rattle.grain.specs.Prices.{isSettlement}
-use Rattle.grain.specs.Amounts.{expandedOf, isFitAmount}
+use Rattle.grain.specs.Amounts.{windowLength, expandedOf, isFitAmount}
 use Rattle.record.specs.declared.Day.{Day}
 use Rattle.record.specs.Choices.{isSome}
 use Rattle.record.specs.Sound.{isSoundSheet}
@@ -54,4 +54,4 @@ areItemsSound p limit today last =
 
 -- the window of product p
 abbrev pub isWindowSound : Windows → ℕ → Bool
-isWindowSound w p = leb (length (windowOf w p)) 45 and every (isSettlement p) (windowOf w p)
+isWindowSound w p = leb (length (windowOf w p)) windowLength and every (isSettlement p) (windowOf w p)

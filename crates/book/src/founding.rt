@@ -6,9 +6,12 @@ ghost use Rattle.book.specs.Founding.{noBook, Founds};
 use crate::Book;
 use crate::Limit;
 use crate::Standing;
+use grain::PRODUCT_COUNT;
 use grain::refusals::UNFIT_AMOUNT;
 use record::Contract;
 use record::Day;
+use record::GROUP_COUNT;
+use record::MAX_CONTRACTS;
 use sheets::Sheet;
 use windows::Windows;
 
@@ -18,10 +21,10 @@ pub struct Founding {
     pub book: Book,
 }
 
-fn are_fit(limits: [u32; 8]) -> bool
+fn are_fit(limits: [u32; PRODUCT_COUNT]) -> bool
     ensures { λ r. ⌜ r ≡ isFitStart (record { limits = limits }) ⌝ }
 {
-    for p in 0..8usize {
+    for p in 0..PRODUCT_COUNT {
         if !grain::is_fit_founding(p as u32, limits[p]) {
             return false;
         }
@@ -37,24 +40,24 @@ fn no_book() -> Book
         contracts: [Contract {
             month: 0,
             settlement: 0,
-        }; 16],
+        }; MAX_CONTRACTS],
         len: 0,
     };
     Book {
         limits: [Limit {
             initial: 0,
             expanded: 0,
-        }; 8],
+        }; PRODUCT_COUNT],
         standings: [Standing {
             expanded: false,
             marked: false,
-        }; 6],
+        }; GROUP_COUNT],
         windows: Windows {
             settlements: [0; 360],
-            sizes: [0; 8],
+            sizes: [0; PRODUCT_COUNT],
         },
-        today: [empty; 8],
-        last: [empty; 8],
+        today: [empty; PRODUCT_COUNT],
+        last: [empty; PRODUCT_COUNT],
         day: Day {
             year: 0,
             month: 0,
@@ -66,11 +69,11 @@ fn no_book() -> Book
 }
 
 // All groups at the initial level, with no day and no sheets.
-fn fresh(limits: [u32; 8]) -> Book
+fn fresh(limits: [u32; PRODUCT_COUNT]) -> Book
     ensures { λ r. ⌜ view r ≡ founded (record { limits = limits }) ⌝ }
 {
     let mut b = no_book();
-    for p in 0..8usize {
+    for p in 0..PRODUCT_COUNT {
         let initial = limits[p];
         b.limits[p] = Limit {
             initial,
@@ -80,7 +83,7 @@ fn fresh(limits: [u32; 8]) -> Book
     b
 }
 
-pub fn found(limits: [u32; 8]) -> Founding
+pub fn found(limits: [u32; PRODUCT_COUNT]) -> Founding
     ensures { λ r. ⌜ Founds (record { limits = limits }) r ⌝ }
 {
     if !are_fit(limits) {

@@ -1,5 +1,7 @@
 // The book: what it holds, what that means as a Record, whether it is sound, and a fresh one.
+use grain::PRODUCT_COUNT;
 use record::Day;
+use record::GROUP_COUNT;
 use sheets::Sheet;
 use windows::Windows;
 
@@ -31,13 +33,13 @@ pub struct Standing {
 
 // Copy a field before you index it: an index into a book that came by value has the whole book copied.
 pub struct Book {
-    pub limits: [Limit; 8],
-    pub standings: [Standing; 6],
+    pub limits: [Limit; PRODUCT_COUNT],
+    pub standings: [Standing; GROUP_COUNT],
     pub windows: Windows,
     // The sheets that are in on the open day.
-    pub today: [Sheet; 8],
+    pub today: [Sheet; PRODUCT_COUNT],
     // The sheets of the last ended day.
-    pub last: [Sheet; 8],
+    pub last: [Sheet; PRODUCT_COUNT],
     // The last opened day; all four fields are 0 where there is none.
     pub day: Day,
     // A day is open.

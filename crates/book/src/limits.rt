@@ -3,6 +3,7 @@ ghost use mathlib.Core.Path.{_≡_};
 ghost use Rattle.record.specs.State.{groupOf, groupAt, todaysLimit};
 ghost use Rattle.book.specs.Book.{view};
 use crate::Book;
+use grain::PRODUCT_COUNT;
 
 // The group of each product: the Soybean Complex is 1, 2 and 3.
 const GROUPS: [usize; 8] = [0, 1, 1, 1, 2, 3, 4, 5];
@@ -22,7 +23,7 @@ impl Book {
     pub fn limit_of(self, p: usize) -> u32
         ensures { λ r. ⌜ r ≡ todaysLimit (groupAt (view self) (groupOf p)) p ⌝ }
     {
-        if 8 <= p {
+        if PRODUCT_COUNT <= p {
             return 0;
         }
         let limits = self.limits;

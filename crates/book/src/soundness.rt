@@ -13,7 +13,10 @@ use crate::Book;
 use crate::Limit;
 use crate::Standing;
 use grain::DateFacts;
+use grain::PRODUCT_COUNT;
+use grain::WINDOW_LENGTH;
 use record::Day;
+use record::GROUP_COUNT;
 use sheets::Sheet;
 use windows::Windows;
 
@@ -85,7 +88,7 @@ fn are_products_sound(b: Book) -> bool
     let limits = b.limits;
     let todays = b.today;
     let lasts = b.last;
-    for p in 0..8usize {
+    for p in 0..PRODUCT_COUNT {
         let limit = limits[p];
         let today = todays[p];
         let last = lasts[p];
@@ -101,13 +104,13 @@ fn are_windows_sound(w: Windows) -> bool
 {
     let all = w.settlements;
     let sizes = w.sizes;
-    for p in 0..8usize {
+    for p in 0..PRODUCT_COUNT {
         let n = sizes[p];
-        if 45 < n {
+        if WINDOW_LENGTH < n {
             return false;
         }
         let tick = grain::tick(p as u32, 0);
-        let at = 45 * p;
+        let at = WINDOW_LENGTH * p;
         let past = at + n;
         if !windows::are_on_tick(tick, &all[at..past]) {
             return false;
@@ -126,10 +129,10 @@ fn is_mark_sound(s: Standing) -> bool
     s.expanded
 }
 
-fn are_marks_sound(standings: [Standing; 6]) -> bool
+fn are_marks_sound(standings: [Standing; GROUP_COUNT]) -> bool
     ensures { λ r. ⌜ r ≡ every (λ g. isMarkSound (getD standings g noStanding)) six ⌝ }
 {
-    for g in 0..6usize {
+    for g in 0..GROUP_COUNT {
         let s = standings[g];
         if !is_mark_sound(s) {
             return false;
@@ -138,10 +141,10 @@ fn are_marks_sound(standings: [Standing; 6]) -> bool
     true
 }
 
-fn are_all_missing(sheets: [Sheet; 8]) -> bool
+fn are_all_missing(sheets: [Sheet; PRODUCT_COUNT]) -> bool
     ensures { λ r. ⌜ r ≡ areAllMissing sheets ⌝ }
 {
-    for p in 0..8usize {
+    for p in 0..PRODUCT_COUNT {
         let s = sheets[p];
         if s.len != 0 {
             return false;
@@ -151,10 +154,10 @@ fn are_all_missing(sheets: [Sheet; 8]) -> bool
 }
 
 // The eight sheets are there.
-pub fn are_all_in(sheets: [Sheet; 8]) -> bool
+pub fn are_all_in(sheets: [Sheet; PRODUCT_COUNT]) -> bool
     ensures { λ r. ⌜ r ≡ areAllIn sheets ⌝ }
 {
-    for p in 0..8usize {
+    for p in 0..PRODUCT_COUNT {
         let s = sheets[p];
         if s.len == 0 {
             return false;
@@ -164,7 +167,7 @@ pub fn are_all_in(sheets: [Sheet; 8]) -> bool
 }
 
 // No sheet in while no day is open.
-fn is_phase_sound(is_open: bool, todays: [Sheet; 8]) -> bool
+fn is_phase_sound(is_open: bool, todays: [Sheet; PRODUCT_COUNT]) -> bool
     ensures { λ r. ⌜ r ≡ («is_open» || areAllMissing todays) ⌝ }
 {
     if is_open {
@@ -174,7 +177,7 @@ fn is_phase_sound(is_open: bool, todays: [Sheet; 8]) -> bool
 }
 
 // The last ended sheets are all there, with a date, or none is.
-fn are_last_sound(d: Day, lasts: [Sheet; 8]) -> bool
+fn are_last_sound(d: Day, lasts: [Sheet; PRODUCT_COUNT]) -> bool
     ensures { λ r. ⌜ r ≡ areLastSound d lasts ⌝ }
 {
     if are_all_missing(lasts) {

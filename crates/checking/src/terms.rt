@@ -1,6 +1,7 @@
 // The terms of a check: what holds for a product and size on the open day, whatever the month and price.
 ghost use mathlib.Core.Path.{_≡_};
 ghost use Prim.Native.Nat.{_<_};
+ghost use Rattle.grain.specs.Products.{productCount};
 ghost use Rattle.record.specs.State.{groupOf, groupAt, todaysLimit};
 ghost use Rattle.book.specs.Book.{lastIn, view};
 ghost use Rattle.checking.specs.Terms.{viewTerms, noTerms, Offers};
@@ -43,7 +44,7 @@ fn refused(refusal: u32) -> Offered
 
 // Past all refusals.
 fn granted(b: Book, date: TradeDate, p: usize, tick: u32) -> Terms
-    requires { ⌜ p < 8 ⌝ }
+    requires { ⌜ p < productCount ⌝ }
     ensures { λ r. ⌜ r ≡ record { tick = tick; limit = todaysLimit (groupAt (view b) (groupOf p)) p; date = date; last = lastIn b p } ⌝ }
 {
     let lasts = b.last;

@@ -11,7 +11,7 @@ use Rattle.grain.specs.declared.spot.TradeDate.{TradeDate}
 use Rattle.record.specs.declared.Event.{Event}
 use Rattle.record.specs.declared.Event.the-variants.{Quiet}
 use Rattle.record.specs.End.{levelAfter, markAfter, eventOf, isRaised, isAtExpanded}
-use Rattle.record.specs.State.{groupOf, sheetOr}
+use Rattle.record.specs.State.{groupCount, groupOf, sheetOr}
 use Rattle.record.specs.Window.{windowAfter}
 use Rattle.record.specs.Sound.{isExpanded}
 use Rattle.record.specs.History.{productsOf}
@@ -40,12 +40,12 @@ endedAs r = answerAs (r .refusal) (ended (eventsOf (r .events)))
 
 -- a refused end says quiet for all six, and returns the very book
 abbrev pub refusedBy : Book → ℕ → Ended
-refusedBy b n = record { refusal = n; events = replicate 6 quiet; book = b }
+refusedBy b n = record { refusal = n; events = replicate groupCount quiet; book = b }
 
 pub record Ends (b : Book) (r : Ended) : Type 0 where
   pub responds : Responds b end (endedAs r) (r .book)
   -- a refused end says quiet for all six
-  pub silent : (n : ℕ) → refusal (view b) end ≡ some n → r .events ≡ replicate 6 quiet
+  pub silent : (n : ℕ) → refusal (view b) end ≡ some n → r .events ≡ replicate groupCount quiet
 
 -- the event of a group of a book
 abbrev pub eventIn : Book → TradeDate → ℕ → Event

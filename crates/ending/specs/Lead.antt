@@ -17,6 +17,8 @@ use Rattle.ending.specs.declared.lead.Condition.{Condition}
 use Rattle.ending.specs.declared.lead.Condition.the-variants.{Trigger, Holding, AtExpanded}
 use Rattle.ending.specs.declared.lead.Found.{Found}
 use Rattle.ending.specs.declared.lead.Found.the-variants.{At, Nobody}
+use Rattle.grain.specs.Products.{productCount}
+use Rattle.record.specs.State.{maxContracts}
 
 abbrev pub meets : Condition → Move → Bool
 meets Trigger m = isTrigger m
@@ -39,6 +41,6 @@ movesOf b date ps = concatMap (productMoves (isSpot date)) (map (viewProduct b) 
 
 -- what the search asks of a book's sheets, which every sound book has
 pub record Readable (b : Book) : Type 0 where
-  pub today : (p : ℕ) → p < 8 → todayIn b p .len ≤ 16
-  pub last : (p : ℕ) → p < 8 → lastIn b p .len ≤ 16
-  pub ascending : (p : ℕ) → p < 8 → isAscending (monthsOf (contractsOf (todayIn b p))) ≡ true
+  pub today : (p : ℕ) → p < productCount → todayIn b p .len ≤ maxContracts
+  pub last : (p : ℕ) → p < productCount → lastIn b p .len ≤ maxContracts
+  pub ascending : (p : ℕ) → p < productCount → isAscending (monthsOf (contractsOf (todayIn b p))) ≡ true

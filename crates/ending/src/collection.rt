@@ -2,14 +2,17 @@
 ghost use mathlib.Core.Path.{_≡_};
 ghost use mathlib.Core.Bool.{true};
 ghost use Prim.Native.Nat.{ℕ, _<_, _≤_};
-ghost use Rattle.record.specs.State.{monthOf, tradeDate};
+ghost use Rattle.record.specs.State.{maxContracts, monthOf, tradeDate};
 ghost use Rattle.record.specs.Opening.{isTrueDay};
 ghost use Rattle.record.specs.Window.{upToMiddleOf, newCropMonth, collectedMonth, windowBy};
 ghost use Rattle.sheets.specs.Sheets.{entriesOf};
 ghost use Rattle.windows.specs.Windows.{sizeOf, windowOf, Changed};
 ghost use Rattle.book.specs.Book.{todayIn};
 ghost use Rattle.ending.specs.Ends.{collectingAs, monthIn, windowOfEnd};
+ghost use Rattle.grain.specs.Products.{productCount};
+ghost use Rattle.grain.specs.Amounts.{windowLength};
 use book::Book;
+use grain::PRODUCT_COUNT;
 use grain::TradeDate;
 use record::Day;
 use sheets::Listed;
@@ -71,7 +74,7 @@ fn collected_month(d: Day, month: u32, p: usize) -> Collecting
 
 // A contract that is not on the sheet empties the window.
 fn window_after(w: Windows, p: usize, c: Collecting, s: Sheet) -> Windows
-    requires { ⌜ (p < 8) × (sizeOf w p ≤ 45) ⌝ }
+    requires { ⌜ (p < productCount) × (sizeOf w p ≤ windowLength) ⌝ }
     ensures { λ r. ⌜ Changed w p (windowBy (windowOf w p) (entriesOf s) (monthIn c)) r ⌝ }
 {
     let Collecting::Month(month) = c else {
@@ -85,14 +88,14 @@ fn window_after(w: Windows, p: usize, c: Collecting, s: Sheet) -> Windows
 
 pub(crate) fn windows_after(b: Book, date: TradeDate) -> Windows
     requires { ⌜ (isTrueDay (b .day) ≡ true) × (date ≡ tradeDate (b .day)) ⌝ }
-    requires { ⌜ ((p : ℕ) → p < 8 → sizeOf (b .windows) p ≤ 45) ⌝ }
-    requires { ⌜ ((p : ℕ) → p < 8 → todayIn b p .len ≤ 16) ⌝ }
-    ensures { λ r. ⌜ ((p : ℕ) → p < 8 → windowOf r p ≡ windowOfEnd b p) ⌝ }
+    requires { ⌜ ((p : ℕ) → p < productCount → sizeOf (b .windows) p ≤ windowLength) ⌝ }
+    requires { ⌜ ((p : ℕ) → p < productCount → todayIn b p .len ≤ maxContracts) ⌝ }
+    ensures { λ r. ⌜ ((p : ℕ) → p < productCount → windowOf r p ≡ windowOfEnd b p) ⌝ }
 {
     let day = b.day;
     let todays = b.today;
     let mut w = b.windows;
-    for p in 0..8usize {
+    for p in 0..PRODUCT_COUNT {
         let s = todays[p];
         w = window_after(w, p, collected_month(day, date.month, p), s);
     }

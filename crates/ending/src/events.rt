@@ -3,7 +3,7 @@ ghost use mathlib.Core.Path.{_≡_};
 ghost use mathlib.Core.List.{map};
 ghost use Prim.Native.Nat.{_<_};
 ghost use Rattle.record.specs.Choices.{keep};
-ghost use Rattle.record.specs.State.{initial, expanded};
+ghost use Rattle.record.specs.State.{groupCount, initial, expanded};
 ghost use Rattle.record.specs.End.{leading, ledBy, isHolding, eventOf};
 ghost use Rattle.record.specs.declared.Event.the-variants.{Held, Reverted};
 ghost use Rattle.record.specs.History.{productsOf};
@@ -17,6 +17,7 @@ use crate::lead::leading;
 use book::Book;
 use grain::TradeDate;
 use record::Event;
+use record::GROUP_COUNT;
 use record::GroupEvent;
 
 // The products of a group stand together: from FIRSTS[g], up to ENDS[g] and not with it.
@@ -25,14 +26,14 @@ const FIRSTS: [usize; 6] = [0, 1, 4, 5, 6, 7];
 const ENDS: [usize; 6] = [1, 4, 5, 6, 7, 8];
 
 pub(crate) fn leading_in(b: Book, date: TradeDate, condition: Condition, g: usize) -> Found
-    requires { ⌜ (g < 6) × Readable b ⌝ }
+    requires { ⌜ (g < groupCount) × Readable b ⌝ }
     ensures { λ r. ⌜ r ≡ foundAs (leading (keep (meets condition) (movesOf b date (productsOf g)))) ⌝ }
 {
     leading(b, date, condition, FIRSTS[g], ENDS[g])
 }
 
 fn initial_event(b: Book, date: TradeDate, g: usize) -> Event
-    requires { ⌜ (g < 6) × Readable b ⌝ }
+    requires { ⌜ (g < groupCount) × Readable b ⌝ }
     ensures { λ r. ⌜ r ≡ eventOf initial (standingIn b g .marked) (movesOf b date (productsOf g)) ⌝ }
 {
     let Found::At(at) = leading_in(b, date, Condition::Trigger, g) else {
@@ -43,7 +44,7 @@ fn initial_event(b: Book, date: TradeDate, g: usize) -> Event
 
 // Of an expanded group that is not raised.
 fn held_or_reverted(b: Book, date: TradeDate, g: usize) -> Event
-    requires { ⌜ (g < 6) × Readable b ⌝ }
+    requires { ⌜ (g < groupCount) × Readable b ⌝ }
     ensures { λ r. ⌜ r ≡ ledBy (leading (keep isHolding (movesOf b date (productsOf g)))) Held Reverted ⌝ }
 {
     let Found::At(at) = leading_in(b, date, Condition::Holding, g) else {
@@ -53,7 +54,7 @@ fn held_or_reverted(b: Book, date: TradeDate, g: usize) -> Event
 }
 
 fn expanded_event(b: Book, date: TradeDate, marked: bool, g: usize) -> Event
-    requires { ⌜ (g < 6) × Readable b ⌝ }
+    requires { ⌜ (g < groupCount) × Readable b ⌝ }
     ensures { λ r. ⌜ r ≡ eventOf expanded marked (movesOf b date (productsOf g)) ⌝ }
 {
     if !marked {
@@ -66,7 +67,7 @@ fn expanded_event(b: Book, date: TradeDate, marked: bool, g: usize) -> Event
 }
 
 fn event_of(b: Book, date: TradeDate, g: usize) -> Event
-    requires { ⌜ (g < 6) × Readable b ⌝ }
+    requires { ⌜ (g < groupCount) × Readable b ⌝ }
     ensures { λ r. ⌜ r ≡ eventIn b date g ⌝ }
 {
     let standings = b.standings;
@@ -77,14 +78,14 @@ fn event_of(b: Book, date: TradeDate, g: usize) -> Event
     initial_event(b, date, g)
 }
 
-pub(crate) fn events_of(b: Book, date: TradeDate) -> [GroupEvent; 6]
+pub(crate) fn events_of(b: Book, date: TradeDate) -> [GroupEvent; GROUP_COUNT]
     requires { ⌜ Readable b ⌝ }
     ensures { λ r. ⌜ eventsOf r ≡ map (eventIn b date) six ⌝ }
 {
     let mut events = [GroupEvent {
         event: Event::Quiet,
-    }; 6];
-    for g in 0..6usize {
+    }; GROUP_COUNT];
+    for g in 0..GROUP_COUNT {
         events[g] = GroupEvent {
             event: event_of(b, date, g),
         };

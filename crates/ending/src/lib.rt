@@ -9,8 +9,10 @@ ghost use Rattle.book.specs.Book.{view};
 ghost use Rattle.ending.specs.Ends.{eventsOf, refusedBy, Ends};
 use book::Book;
 use book::Dated;
+use grain::PRODUCT_COUNT;
 use grain::TradeDate;
 use record::Event;
+use record::GROUP_COUNT;
 use record::GroupEvent;
 use record::refusals::UNSOUND;
 use sheets::Sheet;
@@ -32,7 +34,7 @@ pub struct Ended {
     // 0, or the number of the refusal.
     pub refusal: u32,
     // For each group, its event; an event carries its leading contract, where it has one.
-    pub events: [GroupEvent; 6],
+    pub events: [GroupEvent; GROUP_COUNT],
     pub book: Book,
 }
 
@@ -44,7 +46,7 @@ fn refused(b: Book, refusal: u32) -> Ended
         refusal,
         events: [GroupEvent {
             event: Event::Quiet,
-        }; 6],
+        }; GROUP_COUNT],
         book: b,
     }
 }
@@ -80,7 +82,7 @@ fn accepted(b: Book, date: TradeDate) -> Ended
     let todays = b.today;
     next.last = todays;
     let none = Sheet::none();
-    let empty = [none; 8];
+    let empty = [none; PRODUCT_COUNT];
     next.today = empty;
     next.is_open = false;
     Ended {

@@ -5,8 +5,11 @@ ghost use lib.ListN.{getD};
 ghost use Rattle.record.specs.End.{isRaised};
 ghost use Rattle.book.specs.Book.{noLimit};
 ghost use Rattle.ending.specs.Ends.{limitAfter, limitOfEnd};
+ghost use Rattle.grain.specs.Products.{productCount};
 use book::Limit;
+use grain::PRODUCT_COUNT;
 use record::Event;
+use record::GROUP_COUNT;
 use record::GroupEvent;
 
 fn is_raised(event: Event) -> bool
@@ -22,7 +25,7 @@ fn is_raised(event: Event) -> bool
 }
 
 fn limit_after(raised: bool, p: usize, limit: Limit) -> Limit
-    requires { ⌜ p < 8 ⌝ }
+    requires { ⌜ p < productCount ⌝ }
     ensures { λ r. ⌜ r ≡ limitAfter raised p limit ⌝ }
 {
     if !raised {
@@ -34,11 +37,14 @@ fn limit_after(raised: bool, p: usize, limit: Limit) -> Limit
     }
 }
 
-pub(crate) fn limits_after(events: [GroupEvent; 6], limits: [Limit; 8]) -> [Limit; 8]
-    ensures { λ r. ⌜ ((p : ℕ) → p < 8 → getD r p noLimit ≡ limitOfEnd events limits p) ⌝ }
+pub(crate) fn limits_after(
+    events: [GroupEvent; GROUP_COUNT],
+    limits: [Limit; PRODUCT_COUNT],
+) -> [Limit; PRODUCT_COUNT]
+    ensures { λ r. ⌜ ((p : ℕ) → p < productCount → getD r p noLimit ≡ limitOfEnd events limits p) ⌝ }
 {
     let mut after = limits;
-    for p in 0..8usize {
+    for p in 0..PRODUCT_COUNT {
         let one = events[book::group_of(p)];
         let event = one.event;
         let limit = limits[p];

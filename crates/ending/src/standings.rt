@@ -8,6 +8,7 @@ ghost use Rattle.record.specs.History.{productsOf};
 ghost use Rattle.book.specs.Book.{noStanding};
 ghost use Rattle.ending.specs.Lead.{movesOf, Readable};
 ghost use Rattle.ending.specs.Ends.{standingAfter, standingOfEnd};
+ghost use Rattle.record.specs.State.{groupCount};
 use crate::events::leading_in;
 use crate::lead::Condition;
 use crate::lead::Found;
@@ -15,6 +16,7 @@ use book::Book;
 use book::Standing;
 use grain::TradeDate;
 use record::Event;
+use record::GROUP_COUNT;
 use record::GroupEvent;
 
 // Held with a move of exactly E, which `reached` says, is marked; every other event clears the mark.
@@ -47,7 +49,7 @@ fn standing_after(event: Event, reached: bool) -> Standing
 
 // One of the group moved by exactly E.
 fn is_at_expanded(b: Book, date: TradeDate, g: usize) -> bool
-    requires { ⌜ (g < 6) × Readable b ⌝ }
+    requires { ⌜ (g < groupCount) × Readable b ⌝ }
     ensures { λ r. ⌜ r ≡ any isAtExpanded (movesOf b date (productsOf g)) ⌝ }
 {
     let Found::At(_) = leading_in(b, date, Condition::AtExpanded, g) else {
@@ -58,7 +60,7 @@ fn is_at_expanded(b: Book, date: TradeDate, g: usize) -> bool
 
 // A move of exactly E is looked for only in a held group: no other event can set the mark.
 fn standing_in(b: Book, date: TradeDate, event: Event, g: usize) -> Standing
-    requires { ⌜ (g < 6) × Readable b ⌝ }
+    requires { ⌜ (g < groupCount) × Readable b ⌝ }
     ensures { λ r. ⌜ r ≡ standingAfter event (any isAtExpanded (movesOf b date (productsOf g))) ⌝ }
 {
     let Event::Held(_) = event else {
@@ -67,12 +69,16 @@ fn standing_in(b: Book, date: TradeDate, event: Event, g: usize) -> Standing
     standing_after(event, is_at_expanded(b, date, g))
 }
 
-pub(crate) fn standings_after(b: Book, date: TradeDate, events: [GroupEvent; 6]) -> [Standing; 6]
+pub(crate) fn standings_after(
+    b: Book,
+    date: TradeDate,
+    events: [GroupEvent; GROUP_COUNT],
+) -> [Standing; GROUP_COUNT]
     requires { ⌜ Readable b ⌝ }
-    ensures { λ r. ⌜ ((g : ℕ) → g < 6 → getD r g noStanding ≡ standingOfEnd b date events g) ⌝ }
+    ensures { λ r. ⌜ ((g : ℕ) → g < groupCount → getD r g noStanding ≡ standingOfEnd b date events g) ⌝ }
 {
     let mut standings = b.standings;
-    for g in 0..6usize {
+    for g in 0..GROUP_COUNT {
         let one = events[g];
         let event = one.event;
         standings[g] = standing_in(b, date, event, g);

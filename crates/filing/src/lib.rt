@@ -3,6 +3,7 @@ ghost use mathlib.Core.Path.{_≡_};
 ghost use mathlib.Core.List.{List};
 ghost use mathlib.Core.Option.{some};
 ghost use Prim.Native.Nat.{ℕ, _<_};
+ghost use Rattle.grain.specs.Products.{productCount};
 ghost use Rattle.record.specs.Sheet.{contracts};
 ghost use Rattle.record.specs.Record.{next as nextState, sheet as call};
 ghost use Rattle.sheets.specs.Sheets.{sheetIn};
@@ -58,7 +59,7 @@ pub fn sheet(b: Book, product: u32, months: &[u32], settlements: &[u32]) -> File
 }
 
 fn with_sheet(b: Book, p: usize, s: Sheet) -> Book
-    requires { ⌜ p < 8 ⌝ }
+    requires { ⌜ p < productCount ⌝ }
     ensures { λ r. ⌜ ((ms ss : List ℕ) → sheetIn s ≡ some (contracts ms ss) → view r ≡ nextState (view b) (call p ms ss)) ⌝ }
 {
     let mut todays = b.today;

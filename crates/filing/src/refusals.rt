@@ -2,6 +2,7 @@
 ghost use mathlib.Core.Path.{_≡_};
 ghost use mathlib.Core.Bool.{true};
 ghost use Prim.Native.Nat.{_<_};
+ghost use Rattle.grain.specs.Products.{productCount};
 ghost use Rattle.record.specs.Choices.{orElse};
 ghost use Rattle.record.specs.Refusals.{first};
 ghost use Rattle.record.specs.State.{tradeDate};
@@ -61,7 +62,7 @@ fn has_bad_month(date: TradeDate, product: u32, s: Sheet) -> bool
 
 // Those that look at the contracts; 0 where none refuses it.
 pub(crate) fn contract_refusal(b: Book, date: TradeDate, p: usize, s: Sheet) -> u32
-    requires { ⌜ (p < 8) × (isSound (view b) ≡ true) × (date ≡ tradeDate (b .day)) ⌝ }
+    requires { ⌜ (p < productCount) × (isSound (view b) ≡ true) × (date ≡ tradeDate (b .day)) ⌝ }
     ensures { λ r. ⌜ r ≡ orElse (first (contractTests (view b) p (entriesOf s))) 0 ⌝ }
 {
     let product = p as u32;

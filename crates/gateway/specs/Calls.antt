@@ -17,6 +17,8 @@ use Rattle.image.specs.Words.{flat}
 use Rattle.image.specs.Image.{flagWord, bookIn}
 use Rattle.image.specs.Answers.{wordsOfEvent, renewedIn, eventsIn}
 use Rattle.gateway.specs.declared.spans.Spanned.{Spanned}
+use Rattle.grain.specs.Products.{productCount}
+use Rattle.record.specs.State.{groupCount}
 
 -- the number that a call returns: 0 where it is accepted, and a check's verdict
 abbrev pub answerNumber : Answer → ℕ
@@ -75,11 +77,11 @@ abbrev pub imageSpan : List ℕ → ℕ → ℕ → ℕ → ℕ → Spanned
 imageSpan ws p size month price = withSpan (answerTo ws (check p size month price))
 
 abbrev pub noRenewed : List ℕ
-noRenewed = replicate 8 0
+noRenewed = replicate productCount 0
 
--- quiet six times
+-- quiet for every group
 abbrev pub noEvents : List ℕ
-noEvents = replicate (6 * eventWords) 0
+noEvents = replicate (groupCount * eventWords) 0
 
 -- A founding looks at nothing of the words; a refused one leaves the very words.
 pub record FoundsImage (ws : List ℕ) (s : Start) (n : ℕ) (now : List ℕ) : Type 0 where

@@ -6,9 +6,21 @@ use lib.Dec.{leb, eqb}
 use Rattle.grain.specs.Lists.{sum}
 use Rattle.grain.specs.Products.{isProduct, stepOf, floorOf}
 
+-- no limit is larger
+abbrev pub maxLimit : ℕ
+maxLimit = 2000000
+
+-- no limit that a book is founded on is larger
+abbrev pub maxFounding : ℕ
+maxFounding = 1000000
+
+-- how many settlements make a season limit
+abbrev pub windowLength : ℕ
+windowLength = 45
+
 -- E = I × 3/2 rounded up to a step, and never above 2,000,000
 unfoldable pub expandedBy : ℕ → ℕ → ℕ
-expandedBy step i = min 2000000 (step * ((3 * i + (2 * step - 1)) / (2 * step)))
+expandedBy step i = min maxLimit (step * ((3 * i + (2 * step - 1)) / (2 * step)))
 
 -- I = the larger of the floor and 7/4,500 of the sum rounded to a step, where a half goes up
 unfoldable pub seasonBy : ℕ → ℕ → ℕ → ℕ
@@ -27,7 +39,7 @@ unfoldable pub isFit : ℕ → ℕ → ℕ → Bool
 isFit most p amount = isProduct p && leb (floorOf p) amount && leb amount most && eqb (amount % stepOf p) 0
 
 abbrev pub isFitAmount : ℕ → ℕ → Bool
-isFitAmount p amount = isFit 2000000 p amount
+isFitAmount p amount = isFit maxLimit p amount
 
 abbrev pub isFitFounding : ℕ → ℕ → Bool
-isFitFounding p amount = isFit 1000000 p amount
+isFitFounding p amount = isFit maxFounding p amount

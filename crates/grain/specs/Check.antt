@@ -7,11 +7,12 @@ use Rattle.grain.specs.Lists.{distance}
 use Rattle.grain.specs.declared.check.Span.{Span}
 use Rattle.grain.specs.declared.check.Verdict.{Verdict}
 use Rattle.grain.specs.declared.check.Verdict.the-variants.{Free, Within, Below, Above}
+use Rattle.grain.specs.Prices.{maxPrice}
 
 -- the prices that a limit allows: from settlement − limit, but not under the tick, to settlement + limit, but not over 1,000,000
 unfoldable pub spanBy : ℕ → ℕ → ℕ → Span
 spanBy tick settlement limit =
-    record { lowest = max tick (settlement - limit); highest = min 1000000 (settlement + limit) }
+    record { lowest = max tick (settlement - limit); highest = min maxPrice (settlement + limit) }
 
 -- spot is free; within is a distance of at most the limit, ends included
 unfoldable pub verdict : Bool → ℕ → ℕ → ℕ → ℕ → Verdict

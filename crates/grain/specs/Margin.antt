@@ -7,7 +7,7 @@ use lib.ListN.{length}
 use Rattle.grain.specs.Lists.{every}
 use Rattle.grain.specs.Products.{isProduct}
 use Rattle.grain.specs.Prices.{isSettlement}
-use Rattle.grain.specs.Amounts.{expandedOf, seasonOf, isFitAmount}
+use Rattle.grain.specs.Amounts.{windowLength, expandedOf, seasonOf, isFitAmount}
 use Rattle.grain.specs.Dates.{isDate, contractMonth, seasonNumber, daysRemaining}
 use Rattle.grain.specs.Refusals.{noSuchDate, noSuchProduct, misshapen, badPrice, unfitAmount}
 use Rattle.grain.specs.declared.margin.ExpandedLimit.{ExpandedLimit}
@@ -51,7 +51,7 @@ seasonLimitsAs BadSettlement = refused badPrice
 unfoldable pub seasonLimits : ℕ → List ℕ → Outcome
 seasonLimits p settlements =
     cond (not (isProduct p)) (refused noSuchProduct)
-    (cond (not (eqb (length settlements) 45)) (refused misshapen)
+    (cond (not (eqb (length settlements) windowLength)) (refused misshapen)
     (cond (not (every (isSettlement p) settlements)) (refused badPrice)
     (gives (seasonOf p settlements ∷ expandedOf p (seasonOf p settlements) ∷ []))))
 

@@ -4,9 +4,12 @@ use mathlib.Core.Bool.{Bool, not, _&&_}
 use lib.Dec.{leb, eqb}
 use Rattle.grain.specs.Products.{tickOf}
 
+abbrev pub maxPrice : ℕ
+maxPrice = 1000000
+
 -- no price is on a tick of 0, which stands for a size that is not offered
 unfoldable pub isOnTick : ℕ → ℕ → Bool
-isOnTick tick x = not (eqb tick 0) && leb 1 x && leb x 1000000 && eqb (x % tick) 0
+isOnTick tick x = not (eqb tick 0) && leb 1 x && leb x maxPrice && eqb (x % tick) 0
 
 abbrev pub isPrice : ℕ → ℕ → ℕ → Bool
 isPrice p size x = isOnTick (tickOf p size) x

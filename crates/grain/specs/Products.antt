@@ -7,6 +7,9 @@ use lib.Dec.{ltb, eqb}
 use lib.ListN.{getD}
 use Rattle.grain.specs.Lists.{isIn}
 
+abbrev pub productCount : ℕ
+productCount = 8
+
 -- limits are multiples of the step, in units of the product's price
 unfoldable pub steps : List ℕ
 steps = 40 ∷ 40 ∷ 50 ∷ 50 ∷ 40 ∷ 40 ∷ 40 ∷ 10 ∷ []
@@ -52,7 +55,7 @@ monthsTraded =
     ∷ []
 
 abbrev pub isProduct : ℕ → Bool
-isProduct p = ltb p 8
+isProduct p = ltb p productCount
 
 -- 0 where there is no such product, here and in the next two
 abbrev pub stepOf : ℕ → ℕ

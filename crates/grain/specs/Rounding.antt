@@ -2,7 +2,7 @@
 use Prim.Native.Nat.{ℕ, _*_, _%_, _<_, _≤_, min, max}
 use mathlib.Core.Path.{_≡_}
 use Rattle.grain.specs.Lists.{distance}
-use Rattle.grain.specs.Amounts.{expandedBy, seasonBy}
+use Rattle.grain.specs.Amounts.{maxLimit, expandedBy, seasonBy}
 
 -- the least multiple of the step that is at least 3/2 of i
 pub record LeastMultiple (step i amount : ℕ) : Type 0 where
@@ -20,7 +20,7 @@ pub record NearestMultiple (step s amount : ℕ) : Type 0 where
 pub record Expands (step i e : ℕ) : Type 0 where
   pub rounded : ℕ
   pub isLeast : LeastMultiple step i rounded
-  pub orMost : e ≡ min 2000000 rounded
+  pub orMost : e ≡ min maxLimit rounded
 
 -- the amount so rounded, or the floor where that is more
 pub record Renews (step floor s i : ℕ) : Type 0 where

@@ -2,6 +2,8 @@
 ghost use mathlib.Core.Path.{_≡_};
 ghost use Prim.Native.Nat.{_+_, _-_, min, max};
 ghost use Rattle.grain.specs.Check.{spanBy, verdict};
+ghost use Rattle.grain.specs.Prices.{maxPrice};
+use crate::prices::MAX_PRICE;
 
 // The prices that a limit allows, both ends included.
 pub struct Span {
@@ -31,11 +33,11 @@ fn lowest(tick: u32, settlement: u32, limit: u32) -> u32
 }
 
 fn highest(settlement: u32, limit: u32) -> u32
-    ensures { λ r. ⌜ r ≡ min 1000000 (settlement + limit) ⌝ }
+    ensures { λ r. ⌜ r ≡ min maxPrice (settlement + limit) ⌝ }
 {
     let high = (settlement as u64) + (limit as u64);
-    if 1000000 < high {
-        return 1000000;
+    if (MAX_PRICE as u64) < high {
+        return MAX_PRICE;
     }
     high as u32
 }

@@ -4,12 +4,14 @@ ghost use Prim.Native.Nat.{_<_, _^_};
 ghost use Rattle.grain.specs.Lists.{every, sum};
 ghost use Rattle.grain.specs.Prices.{isSettlement};
 ghost use Rattle.grain.specs.Margin.{refusalIn, expandedLimitAs, expandedLimit, seasonLimitsAs, seasonLimits, dateFactsAs, dateFacts};
+use crate::amounts::WINDOW_LENGTH;
 use crate::amounts::expanded;
 use crate::amounts::is_fit_amount;
 use crate::amounts::season_initial;
 use crate::dates::is_date;
 use crate::dates::month_length;
 use crate::prices::is_settlement;
+use crate::products::PRODUCTS;
 use crate::refusals::BAD_PRICE;
 use crate::refusals::MISSHAPEN;
 use crate::refusals::NO_SUCH_DATE;
@@ -87,7 +89,7 @@ impl DateFacts {
 pub fn expanded_limit(product: u32, initial: u32) -> ExpandedLimit
     ensures { λ r. ⌜ expandedLimitAs r ≡ expandedLimit product initial ⌝ }
 {
-    if 8 <= product {
+    if PRODUCTS <= product {
         return ExpandedLimit::NoSuchProduct;
     }
     if !is_fit_amount(product, initial) {
@@ -126,10 +128,10 @@ fn sum_of(settlements: &[u32]) -> u32
 pub fn season_limits(product: u32, settlements: &[u32]) -> SeasonLimits
     ensures { λ r. ⌜ seasonLimitsAs r ≡ seasonLimits product (now (settlements .entry)) ⌝ }
 {
-    if 8 <= product {
+    if PRODUCTS <= product {
         return SeasonLimits::NoSuchProduct;
     }
-    if settlements.len() != 45 {
+    if settlements.len() != WINDOW_LENGTH {
         return SeasonLimits::NotFortyFive;
     }
     if !are_settlements(product, settlements) {

@@ -3,6 +3,9 @@ ghost use mathlib.Core.Path.{_≡_};
 ghost use Rattle.grain.specs.Prices.{isOnTick, isSettlement};
 use crate::products::tick;
 
+// Prices and settlements run from 1 to it.
+pub const MAX_PRICE: u32 = 1000000;
+
 // A price on the tick of its product and size; none is on a tick of 0.
 pub fn is_on_tick(tick: u32, price: u32) -> bool
     ensures { λ r. ⌜ r ≡ isOnTick tick price ⌝ }
@@ -13,7 +16,7 @@ pub fn is_on_tick(tick: u32, price: u32) -> bool
     if price < 1 {
         return false;
     }
-    if 1000000 < price {
+    if MAX_PRICE < price {
         return false;
     }
     if 2 < tick {

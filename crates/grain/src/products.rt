@@ -1,19 +1,24 @@
 // The product table. Each column is a constant array that one function reads; no other function touches it.
 ghost use mathlib.Core.Path.{_≡_};
 ghost use Prim.Native.Nat.{_<_};
-ghost use Rattle.grain.specs.Products.{isProduct, stepOf, floorOf, firstOf, tickOf, isTraded};
+ghost use Rattle.grain.specs.Products.{productCount, isProduct, stepOf, floorOf, firstOf, tickOf, isTraded};
 
-const STEPS: [u8; 8] = [40, 40, 50, 50, 40, 40, 40, 10];
+pub const PRODUCT_COUNT: usize = 8;
 
-const FLOORS: [u16; 8] = [160, 400, 200, 200, 240, 240, 160, 100];
+// The same in the type of a product's number.
+pub(crate) const PRODUCTS: u32 = PRODUCT_COUNT as u32;
 
-const FIRSTS: [u8; 8] = [5, 7, 8, 8, 5, 5, 5, 6];
+const STEPS: [u8; PRODUCT_COUNT] = [40, 40, 50, 50, 40, 40, 40, 10];
+
+const FLOORS: [u16; PRODUCT_COUNT] = [160, 400, 200, 200, 240, 240, 160, 100];
+
+const FIRSTS: [u8; PRODUCT_COUNT] = [5, 7, 8, 8, 5, 5, 5, 6];
 
 // The standard ticks, then those of the minis; 0 where no mini is offered.
-const TICKS: [u8; 16] = [2, 2, 1, 1, 2, 2, 2, 1, 1, 1, 0, 0, 1, 0, 0, 0];
+const TICKS: [u8; 2 * PRODUCT_COUNT] = [2, 2, 1, 1, 2, 2, 2, 1, 1, 1, 0, 0, 1, 0, 0, 0];
 
 // Months traded: bit 0 is January.
-const MONTHS: [u16; 8] = [
+const MONTHS: [u16; PRODUCT_COUNT] = [
     0b1001_0101_0100,
     0b0101_1101_0101,
     0b1011_1101_0101,
@@ -27,18 +32,18 @@ const MONTHS: [u16; 8] = [
 pub fn is_product(product: u32) -> bool
     ensures { λ r. ⌜ r ≡ isProduct product ⌝ }
 {
-    product < 8
+    product < PRODUCTS
 }
 
 pub(crate) fn step(product: u32) -> u32
-    requires { ⌜ product < 8 ⌝ }
+    requires { ⌜ product < productCount ⌝ }
     ensures { λ r. ⌜ r ≡ stepOf product ⌝ }
 {
     STEPS[product as usize] as u32
 }
 
 pub(crate) fn floor(product: u32) -> u32
-    requires { ⌜ product < 8 ⌝ }
+    requires { ⌜ product < productCount ⌝ }
     ensures { λ r. ⌜ r ≡ floorOf product ⌝ }
 {
     FLOORS[product as usize] as u32
@@ -48,7 +53,7 @@ pub(crate) fn floor(product: u32) -> u32
 pub fn first_contracts(product: u32) -> u32
     ensures { λ r. ⌜ r ≡ firstOf product ⌝ }
 {
-    if 8 <= product {
+    if PRODUCTS <= product {
         return 0;
     }
     FIRSTS[product as usize] as u32
@@ -58,20 +63,20 @@ pub fn first_contracts(product: u32) -> u32
 pub fn tick(product: u32, size: u32) -> u32
     ensures { λ r. ⌜ r ≡ tickOf product size ⌝ }
 {
-    if 8 <= product {
+    if PRODUCTS <= product {
         return 0;
     }
     if 1 < size {
         return 0;
     }
-    TICKS[(8 * size + product) as usize] as u32
+    TICKS[(PRODUCTS * size + product) as usize] as u32
 }
 
 // Whether the product trades in the calendar month of a contract month.
 pub fn is_traded(product: u32, month: u32) -> bool
     ensures { λ r. ⌜ r ≡ isTraded product month ⌝ }
 {
-    if 8 <= product {
+    if PRODUCTS <= product {
         return false;
     }
     (MONTHS[product as usize] >> (month % 12)) % 2 == 1

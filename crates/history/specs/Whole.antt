@@ -25,6 +25,7 @@ use Rattle.checking.specs.declared.Checked.{Checked}
 use Rattle.checking.specs.declared.Checked.the-variants.{Is}
 use Rattle.checking.specs.Checks.{Checks}
 use Rattle.history.specs.Trace.{Trace}
+use Rattle.grain.specs.Products.{productCount}
 
 -- A list of calls on a fresh book, which is what an accepted founding returns; their answers, and the book that they leave.
 pub record Run (s : Start) (cs : List Call) (rs : List Answer) (z : Book) : Type 0 where
@@ -47,7 +48,7 @@ pub record SameProduct (z : Book) (r : Record) (p : ℕ) : Type 0 where
 pub record SameContents (z : Book) (r : Record) : Type 0 where
   pub isOpen : z .«is_open» ≡ r .common .isOpen
   pub opened : openedOf (z .day) ≡ r .common .opened
-  pub products : (p : ℕ) → p < 8 → SameProduct z r p
+  pub products : (p : ℕ) → p < productCount → SameProduct z r p
 
 pub record WholeHistory : Type 0 where
   -- every answer and refusal number is the Record's, from the founding limits and the calls' arguments alone

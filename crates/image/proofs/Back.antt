@@ -10,6 +10,7 @@ use lib.Seq.{take-all, take-at, drop-at}
 use borrow.Author.Tests.{le-leb}
 use Rattle.grain.specs.Lists.{_and_, every}
 use Rattle.record.specs.Sound.{isSound}
+use Rattle.record.specs.State.{groupCount}
 use Rattle.sheets.specs.declared.Sheet.{Sheet}
 use Rattle.sheets.specs.Sheets.{noContract}
 use Rattle.windows.specs.declared.Windows.{Windows}
@@ -107,7 +108,7 @@ module _ (b : Book) (s : Shaped b) (rest : List ℕ) where
   at-last : drop at.last ws ≡ from-last
   at-last = after-part ws (flat wordsOfSheet (b .today)) from-last at.today _ at-today (sheets-long (b .today) (s .today))
 
-  standings-part : part at.standings (6 * standingWords) ws ≡ flat wordsOfStanding (b .standings)
+  standings-part : part at.standings (groupCount * standingWords) ws ≡ flat wordsOfStanding (b .standings)
   standings-part = part-is ws (flat wordsOfStanding (b .standings)) from-windows at.standings _ at-standings (standings-long b s)
 
   is-image : isImage ws ≡ true
@@ -122,10 +123,10 @@ module _ (b : Book) (s : Shaped b) (rest : List ℕ) where
         rw (part-is ws (flat wordsOfLimit (b .limits)) from-standings at.limits _ at-limits (limits-long b s))
         (chunks-back wordsOfLimit limitWords noLimit limitOf 8 (b .limits) (s .limits) (λ q h. refl) (λ q h. refl))
 
-    standings-back : chunks standingWords standingOf 6 (part at.standings (6 * standingWords) ws) ≡ b .standings
+    standings-back : chunks standingWords standingOf groupCount (part at.standings (groupCount * standingWords) ws) ≡ b .standings
     standings-back =
         rw standings-part
-        (chunks-back wordsOfStanding standingWords noStanding standingOf 6 (b .standings) (s .standings) (λ q h. refl) (λ q h. standing-back (getD (b .standings) q noStanding)))
+        (chunks-back wordsOfStanding standingWords noStanding standingOf groupCount (b .standings) (s .standings) (λ q h. refl) (λ q h. standing-back (getD (b .standings) q noStanding)))
 
     windows-back : windowsOf (part at.windows windowsWords ws) ≡ b .windows
     windows-back =

@@ -7,6 +7,7 @@ use lib.ListN.{length, getD, length-map, length-append}
 use Rattle.record.specs.declared.Event.{Event}
 use Rattle.record.specs.declared.Event.the-variants.{Quiet, Triggered, Held, Reverted, Raised}
 use Rattle.record.specs.declared.GroupEvent.{GroupEvent}
+use Rattle.record.specs.State.{groupCount}
 use Rattle.sheets.specs.declared.Sheet.{Sheet}
 use Rattle.windows.specs.declared.Windows.{Windows}
 use Rattle.sheets.specs.Sheets.{noContract}
@@ -38,8 +39,8 @@ event-long (Raised l) = refl
 pub events-sized : (es : List GroupEvent) (n : ℕ) → Sized wordsOfGroupEvent eventWords quiet es n
 events-sized es n q h = event-long (getD es q quiet .event)
 
-pub events-long : (es : List GroupEvent) → length es ≡ 6 → length (flat wordsOfGroupEvent es) ≡ 6 * eventWords
-events-long es e = flat-sized wordsOfGroupEvent eventWords quiet 6 es e (events-sized es 6)
+pub events-long : (es : List GroupEvent) → length es ≡ groupCount → length (flat wordsOfGroupEvent es) ≡ groupCount * eventWords
+events-long es e = flat-sized wordsOfGroupEvent eventWords quiet groupCount es e (events-sized es groupCount)
 
 pub sizes-long : (w : Windows) → WindowsPut w → length (map (countWord 45) (w .sizes)) ≡ 8
 sizes-long w s = length-map (w .sizes) (countWord 45) ∙ s .sizes
@@ -58,8 +59,8 @@ module _ (b : Book) (s : Shaped b) where
   pub limits-long : length (flat wordsOfLimit (b .limits)) ≡ 8 * limitWords
   limits-long = flat-sized wordsOfLimit limitWords noLimit 8 (b .limits) (s .limits) (λ q h. refl)
 
-  pub standings-long : length (flat wordsOfStanding (b .standings)) ≡ 6 * standingWords
-  standings-long = flat-sized wordsOfStanding standingWords noStanding 6 (b .standings) (s .standings) (λ q h. refl)
+  pub standings-long : length (flat wordsOfStanding (b .standings)) ≡ groupCount * standingWords
+  standings-long = flat-sized wordsOfStanding standingWords noStanding groupCount (b .standings) (s .standings) (λ q h. refl)
 
   pub book-long : length (wordsOfBook b) ≡ at.renewed
   unfolding wordsOfBook

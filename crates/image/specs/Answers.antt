@@ -1,9 +1,11 @@
 -- What the last accepted opening and end answered, as words after those of the book.
 use Prim.Native.Nat.{ℕ, _*_}
 use mathlib.Core.List.{List, [], _∷_}
+use Rattle.grain.specs.Products.{productCount}
 use Rattle.record.specs.declared.Event.{Event}
 use Rattle.record.specs.declared.Event.the-variants.{Quiet, Triggered, Held, Reverted, Raised}
 use Rattle.record.specs.declared.GroupEvent.{GroupEvent}
+use Rattle.record.specs.State.{groupCount}
 use Rattle.image.specs.Places.{eventWords}
 use Rattle.image.specs.Places as at
 use Rattle.image.specs.Words.{part}
@@ -21,8 +23,8 @@ wordsOfGroupEvent e = wordsOfEvent (e .event)
 
 -- a word for each product
 abbrev pub renewedIn : List ℕ → List ℕ
-renewedIn ws = part at.renewed 8 ws
+renewedIn ws = part at.renewed productCount ws
 
 -- three words for each group
 abbrev pub eventsIn : List ℕ → List ℕ
-eventsIn ws = part at.events (6 * eventWords) ws
+eventsIn ws = part at.events (groupCount * eventWords) ws

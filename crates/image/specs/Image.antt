@@ -5,8 +5,11 @@ use mathlib.Core.List.{List, [], _∷_, _++_, map}
 use lib.Dec.{eqb, leb, ltb}
 use lib.ListN.{getD}
 use Rattle.grain.specs.Lists.{_and_, every}
+use Rattle.grain.specs.Products.{productCount}
+use Rattle.grain.specs.Amounts.{windowLength}
 use Rattle.record.specs.declared.Contract.{Contract}
 use Rattle.record.specs.declared.Day.{Day}
+use Rattle.record.specs.State.{groupCount, maxContracts}
 use Rattle.sheets.specs.declared.Sheet.{Sheet}
 use Rattle.windows.specs.declared.Windows.{Windows}
 use Rattle.book.specs.declared.Limit.{Limit}
@@ -35,13 +38,13 @@ abbrev pub wordsOfStanding : Standing → List ℕ
 wordsOfStanding s = flagWord (s .expanded) ∷ flagWord (s .marked) ∷ []
 
 unfoldable pub wordsOfWindows : Windows → List ℕ
-wordsOfWindows w = map (countWord 45) (w .sizes) ++ w .settlements
+wordsOfWindows w = map (countWord windowLength) (w .sizes) ++ w .settlements
 
 abbrev pub wordsOfContract : Contract → List ℕ
 wordsOfContract c = c .month ∷ c .settlement ∷ []
 
 unfoldable pub wordsOfSheet : Sheet → List ℕ
-wordsOfSheet s = countWord 16 (s .len) ∷ flat wordsOfContract (s .contracts)
+wordsOfSheet s = countWord maxContracts (s .len) ∷ flat wordsOfContract (s .contracts)
 
 unfoldable pub wordsOfBook : Book → List ℕ
 wordsOfBook b =
@@ -63,13 +66,13 @@ abbrev pub standingOf : List ℕ → Standing
 standingOf ws = record { expanded = eqb (getD ws 0 0) 1; marked = eqb (getD ws 1 0) 1 }
 
 unfoldable pub windowsOf : List ℕ → Windows
-windowsOf ws = record { settlements = part 8 (8 * 45) ws; sizes = part 0 8 ws }
+windowsOf ws = record { settlements = part productCount (productCount * windowLength) ws; sizes = part 0 productCount ws }
 
 abbrev pub contractOf : List ℕ → Contract
 contractOf ws = record { month = getD ws 0 0; settlement = getD ws 1 0 }
 
 unfoldable pub sheetOf : List ℕ → Sheet
-sheetOf ws = record { contracts = chunks contractWords contractOf 16 (part 1 (16 * contractWords) ws); len = getD ws 0 0 }
+sheetOf ws = record { contracts = chunks contractWords contractOf maxContracts (part 1 (maxContracts * contractWords) ws); len = getD ws 0 0 }
 
 abbrev pub dayOf : List ℕ → Day
 dayOf ws =
@@ -78,11 +81,11 @@ dayOf ws =
 abbrev pub asBook : List ℕ → Book
 asBook ws =
     record {
-      limits = chunks limitWords limitOf 8 (part at.limits (8 * limitWords) ws);
-      standings = chunks standingWords standingOf 6 (part at.standings (6 * standingWords) ws);
+      limits = chunks limitWords limitOf productCount (part at.limits (productCount * limitWords) ws);
+      standings = chunks standingWords standingOf groupCount (part at.standings (groupCount * standingWords) ws);
       windows = windowsOf (part at.windows windowsWords ws);
-      today = chunks sheetWords sheetOf 8 (part at.today (8 * sheetWords) ws);
-      last = chunks sheetWords sheetOf 8 (part at.last (8 * sheetWords) ws);
+      today = chunks sheetWords sheetOf productCount (part at.today (productCount * sheetWords) ws);
+      last = chunks sheetWords sheetOf productCount (part at.last (productCount * sheetWords) ws);
       day = dayOf ws;
       «is_open» = eqb (getD ws at.isOpen 0) 1;
     }
@@ -92,7 +95,7 @@ unfoldable pub isImage : List ℕ → Bool
 isImage ws =
     eqb (getD ws at.format 0) formatNumber
     and isFlag (getD ws at.isOpen 0)
-    and every isFlag (part at.standings (6 * standingWords) ws)
+    and every isFlag (part at.standings (groupCount * standingWords) ws)
 
 -- other words hold the book on which every call is refused with 1
 unfoldable pub bookIn : List ℕ → Book

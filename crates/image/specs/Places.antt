@@ -1,5 +1,8 @@
 -- Where each part of an image begins, in words from its start: where the one before it ends. src/places.rt has the same names.
 use Prim.Native.Nat.{ℕ, _+_, _*_}
+use Rattle.grain.specs.Products.{productCount}
+use Rattle.grain.specs.Amounts.{windowLength}
+use Rattle.record.specs.State.{groupCount, maxContracts}
 
 -- the format of the images that are made and taken; another layout has another number
 abbrev pub formatNumber : ℕ
@@ -11,16 +14,16 @@ limitWords = 2
 abbrev pub standingWords : ℕ
 standingWords = 2
 
--- eight sizes and 360 settlements
+-- a size for each product, and the places of all windows
 abbrev pub windowsWords : ℕ
-windowsWords = 8 + 8 * 45
+windowsWords = productCount + productCount * windowLength
 
 abbrev pub contractWords : ℕ
 contractWords = 2
 
--- a count and 16 contracts
+-- a count and the contracts of all places
 abbrev pub sheetWords : ℕ
-sheetWords = 1 + 16 * contractWords
+sheetWords = 1 + maxContracts * contractWords
 
 -- a kind, a month and a product
 abbrev pub eventWords : ℕ
@@ -48,23 +51,23 @@ abbrev pub limits : ℕ
 limits = left + 1
 
 abbrev pub standings : ℕ
-standings = limits + 8 * limitWords
+standings = limits + productCount * limitWords
 
 abbrev pub windows : ℕ
-windows = standings + 6 * standingWords
+windows = standings + groupCount * standingWords
 
 abbrev pub today : ℕ
 today = windows + windowsWords
 
 abbrev pub last : ℕ
-last = today + 8 * sheetWords
+last = today + productCount * sheetWords
 
 -- here the book ends; what follows no call looks at
 abbrev pub renewed : ℕ
-renewed = last + 8 * sheetWords
+renewed = last + productCount * sheetWords
 
 abbrev pub events : ℕ
-events = renewed + 8
+events = renewed + productCount
 
 abbrev pub words : ℕ
-words = events + 6 * eventWords
+words = events + groupCount * eventWords

@@ -1,10 +1,13 @@
 -- What is left where a book and the answers of calls are written over any words.
-use Prim.Native.Nat.{ℕ, _<_}
 use mathlib.Core.Path.{_≡_}
 use mathlib.Core.Bool.{true}
 use mathlib.Core.List.{List, _++_}
 use lib.ListN.{length, getD, drop}
+use Prim.Native.Nat.{ℕ, _*_, _<_}
+use Rattle.grain.specs.Products.{productCount}
+use Rattle.grain.specs.Amounts.{windowLength}
 use Rattle.record.specs.Sound.{isSound}
+use Rattle.record.specs.State.{groupCount, maxContracts}
 use Rattle.sheets.specs.declared.Sheet.{Sheet}
 use Rattle.windows.specs.declared.Windows.{Windows}
 use Rattle.book.specs.declared.Book.{Book}
@@ -26,16 +29,16 @@ pub record Put (b : Book) (rs es now : List ℕ) : Type 0 where
 
 -- ---- For the functions inside. Rattle's arrays have fixed lengths and antt's lists have not: the lengths that a book is known to have.
 pub record SheetsPut (sheets : List Sheet) : Type 0 where
-  pub all : length sheets ≡ 8
-  pub each : (p : ℕ) → p < 8 → length (getD sheets p noSheet .contracts) ≡ 16
+  pub all : length sheets ≡ productCount
+  pub each : (p : ℕ) → p < productCount → length (getD sheets p noSheet .contracts) ≡ maxContracts
 
 pub record WindowsPut (w : Windows) : Type 0 where
-  pub sizes : length (w .sizes) ≡ 8
-  pub settlements : length (w .settlements) ≡ 360
+  pub sizes : length (w .sizes) ≡ productCount
+  pub settlements : length (w .settlements) ≡ productCount * windowLength
 
 pub record Shaped (b : Book) : Type 0 where
-  pub limits : length (b .limits) ≡ 8
-  pub standings : length (b .standings) ≡ 6
+  pub limits : length (b .limits) ≡ productCount
+  pub standings : length (b .standings) ≡ groupCount
   pub windows : WindowsPut (b .windows)
   pub today : SheetsPut (b .today)
   pub last : SheetsPut (b .last)

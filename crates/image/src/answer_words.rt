@@ -4,13 +4,17 @@ ghost use Prim.Native.Nat.{_*_};
 ghost use mathlib.Core.Path.{_≡_};
 ghost use mathlib.Core.List.{map};
 ghost use lib.ListN.{length};
+ghost use Rattle.grain.specs.Products.{productCount};
+ghost use Rattle.record.specs.State.{groupCount};
 ghost use Rattle.image.specs.Places.{eventWords};
 ghost use Rattle.image.specs.Words.{flat};
 ghost use Rattle.image.specs.Image.{flagWord};
 ghost use Rattle.image.specs.Answers.{wordsOfEvent, wordsOfGroupEvent};
 use crate::flags::flag_word;
 use crate::places::EVENT_WORDS;
+use grain::PRODUCT_COUNT;
 use record::Event;
+use record::GROUP_COUNT;
 use record::GroupEvent;
 
 // The kinds of an event, as include/botskhela.h names them.
@@ -24,11 +28,11 @@ const REVERTED: u32 = 3;
 
 const RAISED: u32 = 4;
 
-pub(crate) fn put_renewed(out: &mut [u32], renewed: [bool; 8])
-    requires { ⌜ length (now out) ≡ 8 ⌝ }
-    ensures { λ r. ⌜ (now (out .exit) ≡ map flagWord renewed) × (length renewed ≡ 8) ⌝ }
+pub(crate) fn put_renewed(out: &mut [u32], renewed: [bool; PRODUCT_COUNT])
+    requires { ⌜ length (now out) ≡ productCount ⌝ }
+    ensures { λ r. ⌜ (now (out .exit) ≡ map flagWord renewed) × (length renewed ≡ productCount) ⌝ }
 {
-    for p in 0..8usize {
+    for p in 0..PRODUCT_COUNT {
         out[p] = flag_word(renewed[p]);
     }
 }
@@ -55,11 +59,11 @@ fn put_event(out: &mut [u32], event: Event)
     }
 }
 
-pub(crate) fn put_events(out: &mut [u32], events: [GroupEvent; 6])
-    requires { ⌜ length (now out) ≡ 6 * eventWords ⌝ }
-    ensures { λ r. ⌜ (now (out .exit) ≡ flat wordsOfGroupEvent events) × (length events ≡ 6) ⌝ }
+pub(crate) fn put_events(out: &mut [u32], events: [GroupEvent; GROUP_COUNT])
+    requires { ⌜ length (now out) ≡ groupCount * eventWords ⌝ }
+    ensures { λ r. ⌜ (now (out .exit) ≡ flat wordsOfGroupEvent events) × (length events ≡ groupCount) ⌝ }
 {
-    for g in 0..6usize {
+    for g in 0..GROUP_COUNT {
         let one = events[g];
         let event = one.event;
         let at = EVENT_WORDS * g;

@@ -17,6 +17,7 @@ use crate::standing_words::standings_in;
 use crate::window_words::put_windows;
 use crate::window_words::windows_in;
 use book::Book;
+use grain::PRODUCT_COUNT;
 use record::Day;
 
 fn is_image(w: &[u32]) -> bool
@@ -38,7 +39,7 @@ pub(crate) fn read_book(w: &[u32]) -> Book
     ensures { λ r. ⌜ r ≡ bookIn (now (w .entry)) ⌝ }
 {
     if !is_image(w) {
-        let none = book::found([0; 8]);
+        let none = book::found([0; PRODUCT_COUNT]);
         let b = none.book;
         return b;
     }

@@ -1,13 +1,15 @@
-// The limits of the eight products as words.
+// The limits of the products as words.
 ghost use denote.Ref.{now};
 ghost use Prim.Native.Nat.{_*_};
 ghost use mathlib.Core.Path.{_≡_};
 ghost use lib.ListN.{length};
+ghost use Rattle.grain.specs.Products.{productCount};
 ghost use Rattle.image.specs.Places.{limitWords};
 ghost use Rattle.image.specs.Words.{flat, chunks};
 ghost use Rattle.image.specs.Image.{limitOf, wordsOfLimit};
 use crate::places::LIMIT_WORDS;
 use book::Limit;
+use grain::PRODUCT_COUNT;
 
 fn limit_in(s: &[u32]) -> Limit
     requires { ⌜ length (now s) ≡ limitWords ⌝ }
@@ -19,15 +21,15 @@ fn limit_in(s: &[u32]) -> Limit
     }
 }
 
-pub(crate) fn limits_in(s: &[u32]) -> [Limit; 8]
-    requires { ⌜ length (now s) ≡ 8 * limitWords ⌝ }
-    ensures { λ r. ⌜ r ≡ chunks limitWords limitOf 8 (now (s .entry)) ⌝ }
+pub(crate) fn limits_in(s: &[u32]) -> [Limit; PRODUCT_COUNT]
+    requires { ⌜ length (now s) ≡ productCount * limitWords ⌝ }
+    ensures { λ r. ⌜ r ≡ chunks limitWords limitOf productCount (now (s .entry)) ⌝ }
 {
     let mut all = [Limit {
         initial: 0,
         expanded: 0,
-    }; 8];
-    for p in 0..8usize {
+    }; PRODUCT_COUNT];
+    for p in 0..PRODUCT_COUNT {
         let at = LIMIT_WORDS * p;
         let past = at + LIMIT_WORDS;
         all[p] = limit_in(&s[at..past]);
@@ -43,11 +45,11 @@ fn put_limit(out: &mut [u32], limit: Limit)
     out[1] = limit.expanded;
 }
 
-pub(crate) fn put_limits(out: &mut [u32], limits: [Limit; 8])
-    requires { ⌜ length (now out) ≡ 8 * limitWords ⌝ }
-    ensures { λ r. ⌜ (now (out .exit) ≡ flat wordsOfLimit limits) × (length limits ≡ 8) ⌝ }
+pub(crate) fn put_limits(out: &mut [u32], limits: [Limit; PRODUCT_COUNT])
+    requires { ⌜ length (now out) ≡ productCount * limitWords ⌝ }
+    ensures { λ r. ⌜ (now (out .exit) ≡ flat wordsOfLimit limits) × (length limits ≡ productCount) ⌝ }
 {
-    for p in 0..8usize {
+    for p in 0..PRODUCT_COUNT {
         let limit = limits[p];
         let at = LIMIT_WORDS * p;
         let past = at + LIMIT_WORDS;

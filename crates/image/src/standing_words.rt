@@ -1,14 +1,16 @@
-// The standings of the six groups as words.
+// The standings of the groups as words.
 ghost use denote.Ref.{now};
 ghost use Prim.Native.Nat.{_*_};
 ghost use mathlib.Core.Path.{_≡_};
 ghost use lib.ListN.{length};
+ghost use Rattle.record.specs.State.{groupCount};
 ghost use Rattle.image.specs.Places.{standingWords};
 ghost use Rattle.image.specs.Words.{flat, chunks};
 ghost use Rattle.image.specs.Image.{standingOf, wordsOfStanding};
 use crate::flags::flag_word;
 use crate::places::STANDING_WORDS;
 use book::Standing;
+use record::GROUP_COUNT;
 
 fn standing_in(s: &[u32]) -> Standing
     requires { ⌜ length (now s) ≡ standingWords ⌝ }
@@ -19,15 +21,15 @@ fn standing_in(s: &[u32]) -> Standing
     Standing { expanded, marked }
 }
 
-pub(crate) fn standings_in(s: &[u32]) -> [Standing; 6]
-    requires { ⌜ length (now s) ≡ 6 * standingWords ⌝ }
-    ensures { λ r. ⌜ r ≡ chunks standingWords standingOf 6 (now (s .entry)) ⌝ }
+pub(crate) fn standings_in(s: &[u32]) -> [Standing; GROUP_COUNT]
+    requires { ⌜ length (now s) ≡ groupCount * standingWords ⌝ }
+    ensures { λ r. ⌜ r ≡ chunks standingWords standingOf groupCount (now (s .entry)) ⌝ }
 {
     let mut all = [Standing {
         expanded: false,
         marked: false,
-    }; 6];
-    for g in 0..6usize {
+    }; GROUP_COUNT];
+    for g in 0..GROUP_COUNT {
         let at = STANDING_WORDS * g;
         let past = at + STANDING_WORDS;
         all[g] = standing_in(&s[at..past]);
@@ -43,11 +45,11 @@ fn put_standing(out: &mut [u32], standing: Standing)
     out[1] = flag_word(standing.marked);
 }
 
-pub(crate) fn put_standings(out: &mut [u32], standings: [Standing; 6])
-    requires { ⌜ length (now out) ≡ 6 * standingWords ⌝ }
-    ensures { λ r. ⌜ (now (out .exit) ≡ flat wordsOfStanding standings) × (length standings ≡ 6) ⌝ }
+pub(crate) fn put_standings(out: &mut [u32], standings: [Standing; GROUP_COUNT])
+    requires { ⌜ length (now out) ≡ groupCount * standingWords ⌝ }
+    ensures { λ r. ⌜ (now (out .exit) ≡ flat wordsOfStanding standings) × (length standings ≡ groupCount) ⌝ }
 {
-    for g in 0..6usize {
+    for g in 0..GROUP_COUNT {
         let standing = standings[g];
         let at = STANDING_WORDS * g;
         let past = at + STANDING_WORDS;

@@ -4,6 +4,8 @@ ghost use Prim.Native.Nat.{_*_};
 ghost use mathlib.Core.Path.{_≡_};
 ghost use mathlib.Core.List.{map};
 ghost use lib.ListN.{length, replicate};
+ghost use Rattle.grain.specs.Products.{productCount};
+ghost use Rattle.record.specs.State.{groupCount};
 ghost use Rattle.image.specs.Places as at;
 ghost use Rattle.image.specs.Words.{flat};
 ghost use Rattle.image.specs.Image.{flagWord, bookIn};
@@ -16,7 +18,9 @@ use crate::book_words::write_book;
 use crate::places;
 use crate::places::WORDS;
 use book::Book;
+use grain::PRODUCT_COUNT;
 use record::Event;
+use record::GROUP_COUNT;
 use record::GroupEvent;
 
 pub fn book_in(w: &[u32; WORDS]) -> Book
@@ -39,7 +43,7 @@ pub fn put_filed(w: &mut [u32; WORDS], b: Book)
     write_filed(w, b);
 }
 
-fn write_opened(w: &mut [u32], b: Book, renewed: [bool; 8])
+fn write_opened(w: &mut [u32], b: Book, renewed: [bool; PRODUCT_COUNT])
     requires { ⌜ length (now w) ≡ at.words ⌝ }
     ensures { λ r. ⌜ Put b (map flagWord renewed) (eventsIn (now (w .entry))) (now (w .exit)) ⌝ }
 {
@@ -47,13 +51,13 @@ fn write_opened(w: &mut [u32], b: Book, renewed: [bool; 8])
     put_renewed(&mut w[places::RENEWED..places::EVENTS], renewed);
 }
 
-pub fn put_opened(w: &mut [u32; WORDS], b: Book, renewed: [bool; 8])
+pub fn put_opened(w: &mut [u32; WORDS], b: Book, renewed: [bool; PRODUCT_COUNT])
     ensures { λ r. ⌜ Put b (map flagWord renewed) (eventsIn (now (w .entry))) (now (w .exit)) ⌝ }
 {
     write_opened(w, b, renewed);
 }
 
-fn write_ended(w: &mut [u32], b: Book, events: [GroupEvent; 6])
+fn write_ended(w: &mut [u32], b: Book, events: [GroupEvent; GROUP_COUNT])
     requires { ⌜ length (now w) ≡ at.words ⌝ }
     ensures { λ r. ⌜ Put b (renewedIn (now (w .entry))) (flat wordsOfGroupEvent events) (now (w .exit)) ⌝ }
 {
@@ -61,7 +65,7 @@ fn write_ended(w: &mut [u32], b: Book, events: [GroupEvent; 6])
     put_events(&mut w[places::EVENTS..places::WORDS], events);
 }
 
-pub fn put_ended(w: &mut [u32; WORDS], b: Book, events: [GroupEvent; 6])
+pub fn put_ended(w: &mut [u32; WORDS], b: Book, events: [GroupEvent; GROUP_COUNT])
     ensures { λ r. ⌜ Put b (renewedIn (now (w .entry))) (flat wordsOfGroupEvent events) (now (w .exit)) ⌝ }
 {
     write_ended(w, b, events);
@@ -69,21 +73,24 @@ pub fn put_ended(w: &mut [u32; WORDS], b: Book, events: [GroupEvent; 6])
 
 fn write_founded(w: &mut [u32], b: Book)
     requires { ⌜ length (now w) ≡ at.words ⌝ }
-    ensures { λ r. ⌜ Put b (replicate 8 0) (replicate (6 * at.eventWords) 0) (now (w .exit)) ⌝ }
+    ensures { λ r. ⌜ Put b (replicate productCount 0) (replicate (groupCount * at.eventWords) 0) (now (w .exit)) ⌝ }
 {
     write_book(w, b);
-    put_renewed(&mut w[places::RENEWED..places::EVENTS], [false; 8]);
+    put_renewed(
+        &mut w[places::RENEWED..places::EVENTS],
+        [false; PRODUCT_COUNT],
+    );
     put_events(
         &mut w[places::EVENTS..places::WORDS],
         [GroupEvent {
             event: Event::Quiet,
-        }; 6],
+        }; GROUP_COUNT],
     );
 }
 
 // No call has answered yet.
 pub fn put_founded(w: &mut [u32; WORDS], b: Book)
-    ensures { λ r. ⌜ Put b (replicate 8 0) (replicate (6 * at.eventWords) 0) (now (w .exit)) ⌝ }
+    ensures { λ r. ⌜ Put b (replicate productCount 0) (replicate (groupCount * at.eventWords) 0) (now (w .exit)) ⌝ }
 {
     write_founded(w, b);
 }

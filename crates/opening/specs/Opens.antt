@@ -7,7 +7,7 @@ use mathlib.Core.Option.{some}
 use lib.Dec.{eqb}
 use lib.ListN.{length, getD, replicate}
 use Rattle.grain.specs.Lists.{any}
-use Rattle.grain.specs.Amounts.{expandedOf, seasonOf}
+use Rattle.grain.specs.Amounts.{windowLength, expandedOf, seasonOf}
 use Rattle.record.specs.declared.Day.{Day}
 use Rattle.record.specs.Opening.{isTrueDay}
 use Rattle.record.specs.Record.{opening, Answer, opened, refusal}
@@ -17,6 +17,7 @@ use Rattle.book.specs.declared.Book.{Book}
 use Rattle.book.specs.Book.{isNoDay, view}
 use Rattle.book.specs.Calls.{Responds, answerAs}
 use Rattle.opening.specs.declared.Opened.{Opened}
+use Rattle.grain.specs.Products.{productCount}
 
 abbrev pub dayOn : ℕ → ℕ → ℕ → ℕ → Day
 dayOn year month day left = record { year = year; month = month; day = day; left = left }
@@ -27,7 +28,7 @@ openedAs r = answerAs (r .refusal) (opened (r .renewed))
 pub record Opens (b : Book) (d : Day) (r : Opened) : Type 0 where
   pub responds : Responds b (opening d) (openedAs r) (r .book)
   -- a refused opening says no for all eight
-  pub silent : (n : ℕ) → refusal (view b) (opening d) ≡ some n → r .renewed ≡ replicate 8 false
+  pub silent : (n : ℕ) → refusal (view b) (opening d) ≡ some n → r .renewed ≡ replicate productCount false
 
 -- four zeros, or a date with its left
 abbrev pub NoneOrTrue : Day → Type 0
@@ -35,7 +36,7 @@ NoneOrTrue d = isNoDay d ≡ false → isTrueDay d ≡ true
 
 -- one season later, with a full window
 abbrev pub isRenewedBy : Bool → List ℕ → Bool
-isRenewedBy renews window = renews && eqb (length window) 45
+isRenewedBy renews window = renews && eqb (length window) windowLength
 
 abbrev pub limitOn : Bool → List ℕ → ℕ → Limit → Limit
 limitOn renews window p limit =

@@ -7,6 +7,7 @@ ghost use Rattle.record.specs.Sound.{isSound};
 ghost use Rattle.book.specs.Book.{view};
 ghost use Rattle.opening.specs.Opens.{dayOn, Opens};
 use book::Book;
+use grain::PRODUCT_COUNT;
 use record::Day;
 
 mod refusals;
@@ -26,7 +27,7 @@ pub struct Opened {
     // 0, or the number of the refusal.
     pub refusal: u32,
     // For each product, whether it got new limits.
-    pub renewed: [bool; 8],
+    pub renewed: [bool; PRODUCT_COUNT],
     pub book: Book,
 }
 
@@ -44,7 +45,7 @@ pub fn opening(b: Book, year: u32, month: u32, day: u32, left: u32) -> Opened
     if refusal != 0 {
         return Opened {
             refusal,
-            renewed: [false; 8],
+            renewed: [false; PRODUCT_COUNT],
             book: b,
         };
     }

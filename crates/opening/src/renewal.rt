@@ -10,8 +10,10 @@ ghost use Rattle.windows.specs.Windows.{windowOf};
 ghost use Rattle.book.specs.Book.{noLimit, limitIn};
 ghost use Rattle.book.specs.Soundness.{eight};
 ghost use Rattle.opening.specs.Opens.{isRenewedBy, limitOn};
+ghost use Rattle.grain.specs.Products.{productCount};
 use book::Book;
 use book::Limit;
+use grain::PRODUCT_COUNT;
 use grain::SeasonLimits;
 use windows::Windows;
 
@@ -25,18 +27,18 @@ fn is_renewed(renews: bool, w: Windows, p: usize) -> bool
 }
 
 // For each product, whether it gets its season limits.
-pub(crate) fn renewed_on(renews: bool, w: Windows) -> [bool; 8]
+pub(crate) fn renewed_on(renews: bool, w: Windows) -> [bool; PRODUCT_COUNT]
     ensures { λ r. ⌜ r ≡ map (λ p. isRenewedBy renews (windowOf w p)) eight ⌝ }
 {
-    let mut renewed = [false; 8];
-    for p in 0..8usize {
+    let mut renewed = [false; PRODUCT_COUNT];
+    for p in 0..PRODUCT_COUNT {
         renewed[p] = is_renewed(renews, w, p);
     }
     renewed
 }
 
 fn limit_on(renews: bool, w: Windows, p: usize, limit: Limit) -> Limit
-    requires { ⌜ (p < 8) × (every (isSettlement p) (windowOf w p) ≡ true) ⌝ }
+    requires { ⌜ (p < productCount) × (every (isSettlement p) (windowOf w p) ≡ true) ⌝ }
     ensures { λ r. ⌜ r ≡ limitOn renews (windowOf w p) p limit ⌝ }
 {
     if !is_renewed(renews, w, p) {
@@ -48,13 +50,13 @@ fn limit_on(renews: bool, w: Windows, p: usize, limit: Limit) -> Limit
     Limit { initial, expanded }
 }
 
-pub(crate) fn limits_on(renews: bool, b: Book) -> [Limit; 8]
-    requires { ⌜ ((p : ℕ) → p < 8 → every (isSettlement p) (windowOf (b .windows) p) ≡ true) ⌝ }
-    ensures { λ r. ⌜ ((p : ℕ) → p < 8 → getD r p noLimit ≡ limitOn renews (windowOf (b .windows) p) p (limitIn b p)) ⌝ }
+pub(crate) fn limits_on(renews: bool, b: Book) -> [Limit; PRODUCT_COUNT]
+    requires { ⌜ ((p : ℕ) → p < productCount → every (isSettlement p) (windowOf (b .windows) p) ≡ true) ⌝ }
+    ensures { λ r. ⌜ ((p : ℕ) → p < productCount → getD r p noLimit ≡ limitOn renews (windowOf (b .windows) p) p (limitIn b p)) ⌝ }
 {
     let w = b.windows;
     let mut limits = b.limits;
-    for p in 0..8usize {
+    for p in 0..PRODUCT_COUNT {
         let limit = limits[p];
         limits[p] = limit_on(renews, w, p, limit);
     }

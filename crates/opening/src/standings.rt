@@ -5,7 +5,10 @@ ghost use lib.ListN.{getD};
 ghost use Rattle.record.specs.History.{productsOf};
 ghost use Rattle.book.specs.Book.{noStanding};
 ghost use Rattle.opening.specs.Opens.{isOneRenewed, standingOn};
+ghost use Rattle.record.specs.State.{groupCount};
 use book::Standing;
+use grain::PRODUCT_COUNT;
+use record::GROUP_COUNT;
 
 fn standing_on(is_renewed: bool, standing: Standing) -> Standing
     ensures { λ r. ⌜ r ≡ standingOn «is_renewed» standing ⌝ }
@@ -20,11 +23,14 @@ fn standing_on(is_renewed: bool, standing: Standing) -> Standing
 }
 
 // `renewed` says of each product whether it gets new limits: one that does brings its whole group to the initial level.
-pub(crate) fn standings_on(renewed: [bool; 8], standings: [Standing; 6]) -> [Standing; 6]
-    ensures { λ r. ⌜ ((g : ℕ) → g < 6 → getD r g noStanding ≡ standingOn (isOneRenewed renewed (productsOf g)) (getD standings g noStanding)) ⌝ }
+pub(crate) fn standings_on(
+    renewed: [bool; PRODUCT_COUNT],
+    standings: [Standing; GROUP_COUNT],
+) -> [Standing; GROUP_COUNT]
+    ensures { λ r. ⌜ ((g : ℕ) → g < groupCount → getD r g noStanding ≡ standingOn (isOneRenewed renewed (productsOf g)) (getD standings g noStanding)) ⌝ }
 {
     let mut after = standings;
-    for p in 0..8usize {
+    for p in 0..PRODUCT_COUNT {
         let g = book::group_of(p);
         let standing = after[g];
         after[g] = standing_on(renewed[p], standing);

@@ -8,6 +8,7 @@ use lib.ListN.{length, getD}
 use Rattle.grain.specs.Lists.{_and_, every}
 use Rattle.grain.specs.Amounts.{expandedOf, isFitFounding}
 use Rattle.record.specs.State.{initial, Product, Group, Record, groupTable}
+use Rattle.grain.specs.Products.{productCount}
 
 -- What a book is founded on.
 pub record Start : Type 0 where
@@ -20,7 +21,7 @@ limitOf s p = getD (s .limits) p 0
 -- 13 does not apply
 unfoldable pub isFitStart : Start → Bool
 isFitStart s =
-    eqb (length (s .limits)) 8 and every (λ ps. every (λ p. isFitFounding p (limitOf s p)) ps) groupTable
+    eqb (length (s .limits)) productCount and every (λ ps. every (λ p. isFitFounding p (limitOf s p)) ps) groupTable
 
 unfoldable pub foundProduct : Start → ℕ → Product
 foundProduct s p =

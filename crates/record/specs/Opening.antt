@@ -6,7 +6,7 @@ use mathlib.Core.Option.{Option, some, none}
 use lib.Dec.{leb, eqb}
 use lib.ListN.{length}
 use Rattle.grain.specs.Lists.{any}
-use Rattle.grain.specs.Amounts.{expandedOf, seasonOf}
+use Rattle.grain.specs.Amounts.{windowLength, expandedOf, seasonOf}
 use Rattle.grain.specs.Dates.{isDate, daysRemaining, seasonNumber}
 use Rattle.grain.specs.Refusals.{noSuchDate}
 use Rattle.record.specs.Refusals.{Test, when, wrongPhase, notLater, leftNotSmaller}
@@ -54,7 +54,7 @@ isOtherSeason (some before) d = not (eqb (seasonOn d) (seasonOn before))
 
 -- the product gets its season limits
 unfoldable pub isRenewed : Common → Day → Product → Bool
-isRenewed c d q = isNextSeason (c .opened) d && eqb (length (q .window)) 45
+isRenewed c d q = isNextSeason (c .opened) d && eqb (length (q .window)) windowLength
 
 unfoldable pub openProduct : Common → Day → Product → Product
 openProduct c d q =

@@ -11,7 +11,7 @@ use Rattle.grain.specs.Prices.{isSettlement}
 use Rattle.grain.specs.Refusals.{misshapen, badPrice}
 use Rattle.record.specs.Choices.{isSome}
 use Rattle.record.specs.Refusals.{Test, when, alreadyIn, badMonth, contractAbsent, beyondLimit}
-use Rattle.record.specs.State.{Contract, Sheet, Product, Group, Common, dayOf, monthOf, isSpotOn, productIn, todaysLimit, sheetOr, settlementOn}
+use Rattle.record.specs.State.{maxContracts, Contract, Sheet, Product, Group, Common, dayOf, monthOf, isSpotOn, productIn, todaysLimit, sheetOr, settlementOn}
 
 -- the two arrays as contracts
 abbrev pub contracts : List ℕ → List ℕ → Sheet
@@ -20,7 +20,7 @@ contracts (m ∷ ms) [] = []
 contracts (m ∷ ms) (s ∷ ss) = record { month = m; settlement = s } ∷ contracts ms ss
 
 unfoldable pub isMisshapen : List ℕ → List ℕ → Bool
-isMisshapen ms ss = not (eqb (length ms) (length ss)) || eqb (length ms) 0 || ltb 16 (length ms)
+isMisshapen ms ss = not (eqb (length ms) (length ss)) || eqb (length ms) 0 || ltb maxContracts (length ms)
 
 -- by the contract month of the date
 unfoldable pub hasBadMonth : ℕ → ℕ → List ℕ → Bool

@@ -8,22 +8,22 @@ use lib.ListN.{length}
 use Rattle.grain.specs.Lists.{_and_, every, isAscending}
 use Rattle.grain.specs.Products.{isProduct, isTraded}
 use Rattle.grain.specs.Prices.{isSettlement}
-use Rattle.grain.specs.Amounts.{expandedOf, isFitAmount}
+use Rattle.grain.specs.Amounts.{windowLength, expandedOf, isFitAmount}
 use Rattle.record.specs.Choices.{isSome}
 use Rattle.record.specs.Opening.{isTrueDay}
-use Rattle.record.specs.State.{Contract, Sheet, Level, initial, expanded, Product, Group, Common, Record, dayOf}
+use Rattle.record.specs.State.{maxContracts, Contract, Sheet, Level, initial, expanded, Product, Group, Common, Record, dayOf}
 
 -- 1 to 16 contracts, months as in 7 without the date test, settlements on the standard tick
 unfoldable pub isSoundSheet : ℕ → Option Sheet → Bool
 isSoundSheet p none = true
 isSoundSheet p (some s) =
-    leb 1 (length s) and leb (length s) 16
+    leb 1 (length s) and leb (length s) maxContracts
     and isAscending (map (λ (c : Contract). c .month) s)
     and every (isTraded p) (map (λ (c : Contract). c .month) s)
     and every (isSettlement p) (map (λ (c : Contract). c .settlement) s)
 
 unfoldable pub isSoundWindow : Product → Bool
-isSoundWindow q = leb (length (q .window)) 45 and every (isSettlement (q .number)) (q .window)
+isSoundWindow q = leb (length (q .window)) windowLength and every (isSettlement (q .number)) (q .window)
 
 unfoldable pub isSoundProduct : Product → Bool
 isSoundProduct q =

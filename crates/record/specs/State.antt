@@ -14,6 +14,10 @@ use Rattle.record.specs.Choices.{orElse}
 pub use Rattle.record.specs.declared.Day.{Day}
 pub use Rattle.record.specs.declared.Contract.{Contract}
 
+-- how many contracts a sheet can have
+abbrev pub maxContracts : ℕ
+maxContracts = 16
+
 abbrev pub Sheet : Type 0
 Sheet = List Contract
 
@@ -50,6 +54,9 @@ pub record Record : Type 0 where
 -- the products of each group: Corn; the Soybean Complex; Chicago Wheat; KC Wheat; Oats; Rough Rice
 unfoldable pub groupTable : List (List ℕ)
 groupTable = (0 ∷ []) ∷ (1 ∷ 2 ∷ 3 ∷ []) ∷ (4 ∷ []) ∷ (5 ∷ []) ∷ (6 ∷ []) ∷ (7 ∷ []) ∷ []
+
+abbrev pub groupCount : ℕ
+groupCount = 6
 
 -- the place of the group that holds a product
 abbrev pub placeIn : List (List ℕ) → ℕ → ℕ

@@ -7,6 +7,7 @@ use lib.Dec.{leb, ltb, eqb}
 use lib.ListN.{length, drop}
 use Rattle.grain.specs.Dates.{contractMonth}
 use Rattle.record.specs.State.{Day, Sheet, settlementOn}
+use Rattle.grain.specs.Amounts.{windowLength}
 
 -- the date is before the month, or in its first 15 days
 abbrev pub upToMiddleOf : ℕ → Day → Bool
@@ -26,7 +27,7 @@ collectedMonth d p =
 -- a contract that is not on the sheet empties the window; a 46th settlement pushes out the oldest
 abbrev pub collect : List ℕ → Option ℕ → List ℕ
 collect w none = []
-collect w (some v) = let l = w ++ (v ∷ []) in drop (length l - 45) l
+collect w (some v) = let l = w ++ (v ∷ []) in drop (length l - windowLength) l
 
 abbrev pub windowBy : List ℕ → Sheet → Option ℕ → List ℕ
 windowBy w s none = w

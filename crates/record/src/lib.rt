@@ -9,6 +9,9 @@ pub struct Day {
     pub left: u32,
 }
 
+// How many contracts a sheet can have.
+pub const MAX_CONTRACTS: usize = 16;
+
 pub struct Contract {
     pub month: u32,
     pub settlement: u32,
@@ -28,6 +31,9 @@ pub enum Event {
     Reverted,
     Raised(Lead),
 }
+
+// How many groups the products form.
+pub const GROUP_COUNT: usize = 6;
 
 // An event as an element of an array: of what an end answers, one for each group.
 pub struct GroupEvent {

@@ -7,7 +7,7 @@ use crate::line::numbers_of;
 use crate::line::with_word;
 use crate::words::Word;
 
-// A call after which the book may be another. A sheet has so many months and settlements; 17 stands for any number above 16.
+// A call after which the book may be another. A sheet has so many months and settlements; ENTRIES stands for any number above MAX_CONTRACTS.
 pub enum Change {
     Found,
     Open,

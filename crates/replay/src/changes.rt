@@ -8,6 +8,7 @@ use crate::text::put_events;
 use crate::text::put_refusal;
 use crate::text::put_renewed;
 use book::Book;
+use grain::PRODUCT_COUNT;
 
 pub struct State {
     pub founded: bool,
@@ -19,7 +20,7 @@ pub struct State {
 
 // Before the first call.
 pub fn fresh() -> State {
-    let refused = book::found([0; 8]);
+    let refused = book::found([0; PRODUCT_COUNT]);
     let book = refused.book;
     State {
         founded: false,

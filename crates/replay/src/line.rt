@@ -9,11 +9,16 @@ use crate::names::OPEN;
 use crate::names::SETTLEMENTS;
 use crate::names::SHEET;
 use crate::words::Word;
+use grain::PRODUCT_COUNT;
+use record::MAX_CONTRACTS;
 
-pub type Numbers = [u32; 8];
+// A founding has the most: a limit for each product.
+pub type Numbers = [u32; PRODUCT_COUNT];
 
 // One place more than a sheet has, so that too many can be told.
-pub type Entries = [u32; 17];
+pub const ENTRIES: usize = MAX_CONTRACTS + 1;
+
+pub type Entries = [u32; ENTRIES];
 
 // All calls but a sheet: a name, and so many numbers.
 pub enum Call {
@@ -44,7 +49,7 @@ pub enum Line {
 
 pub fn numbers_of(call: Call) -> usize {
     match call {
-        Call::Found => 8,
+        Call::Found => PRODUCT_COUNT,
         Call::Open => 4,
         Call::End => 0,
         Call::Check => 4,
@@ -81,7 +86,7 @@ fn plain_word(call: Call, count: usize, word: Word, numbers: &mut Numbers) -> Li
     if numbers_of(call) <= count {
         return Line::NotCall;
     }
-    if 8 <= count {
+    if PRODUCT_COUNT <= count {
         return Line::NotCall;
     }
     numbers[count] = n;
@@ -108,8 +113,8 @@ fn word_months(word: Word) -> Line {
 
 // Keeps one more entry of a sheet, where there is a place for it, and answers how many there are.
 fn entry(count: usize, n: u32, entries: &mut Entries) -> usize {
-    if 17 <= count {
-        return 17;
+    if ENTRIES <= count {
+        return ENTRIES;
     }
     entries[count] = n;
     count + 1

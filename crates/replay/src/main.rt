@@ -1,4 +1,6 @@
 // Reads a history of calls from standard input and answers it line by line on standard output, both in blocks.
+use crate::line::ENTRIES;
+use grain::PRODUCT_COUNT;
 use libc::STDIN_FILENO;
 
 mod asked;
@@ -102,9 +104,9 @@ fn turn(
 // Reads until the input ends. A proved loop has to end, so it counts its turns down from a number that no run uses up.
 fn main() {
     let mut out = io::large_buffer();
-    let mut numbers = [0u32; 8];
-    let mut months = [0u32; 17];
-    let mut settlements = [0u32; 17];
+    let mut numbers = [0u32; PRODUCT_COUNT];
+    let mut months = [0u32; ENTRIES];
+    let mut settlements = [0u32; ENTRIES];
     let mut r = start();
     let mut turns = u64::MAX;
     while turns > 0 {

@@ -8,9 +8,9 @@ use Rattle.grain.specs.Lists.{every, isAscending}
 use Rattle.grain.specs.Products.{isProduct}
 use Rattle.grain.specs.Prices.{isSettlement}
 use Rattle.grain.specs.Dates.{isDate}
-use Rattle.grain.specs.Amounts.{expandedOf, seasonOf}
 use Rattle.grain.specs.Margin.{Outcome, refused, gives}
 use Rattle.grain.specs.Refusals.{misshapen, noSuchProduct, noSuchDate, badPrice}
+use Rattle.grain.specs.Amounts.{windowLength, expandedOf, seasonOf}
 use Rattle.season.specs.declared.file.Line.{Line}
 use Rattle.season.specs.declared.file.Line.the-variants.{Limits, Refused}
 
@@ -34,14 +34,14 @@ abbrev pub countIn : List ℕ → ℕ
 countIn file = wordAt file 1
 
 abbrev pub datesIn : List ℕ → List ℕ
-datesIn file = wordsFrom file 2 45
+datesIn file = wordsFrom file 2 windowLength
 
 abbrev pub settlementsIn : List ℕ → List ℕ
-settlementsIn file = wordsFrom file 47 45
+settlementsIn file = wordsFrom file (2 + windowLength) windowLength
 
 unfoldable pub isMisshapen : List ℕ → Bool
 isMisshapen file =
-    ltb (length file) 8 || not (eqb (length file) (8 + 8 * countIn file)) || not (eqb (countIn file) 45)
+    ltb (length file) 8 || not (eqb (length file) (8 + 8 * countIn file)) || not (eqb (countIn file) windowLength)
 
 -- a date is year × 10,000 + month × 100 + day
 unfoldable pub isDateWord : ℕ → Bool

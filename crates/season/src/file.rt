@@ -4,11 +4,21 @@ ghost use Prim.Native.Nat.{_+_, _*_, _<_, _≤_};
 ghost use lib.ListN.{length, getD};
 ghost use Rattle.grain.specs.Lists.{every, isAscending};
 ghost use Rattle.grain.specs.Margin.{seasonLimitsAs};
+ghost use Rattle.grain.specs.Amounts.{windowLength};
 ghost use Rattle.season.specs.SeasonFile.{wordAt, wordsFrom, isMisshapen, isDateWord, lineAs, withProduct, seasonLine};
 use grain::SeasonLimits;
+use grain::WINDOW_LENGTH;
 use grain::refusals::MISSHAPEN;
 use grain::refusals::NO_SUCH_DATE;
 use grain::refusals::NO_SUCH_PRODUCT;
+
+// The count that a season file gives, in the type of its words.
+const COUNT: u32 = WINDOW_LENGTH as u32;
+
+// The words at which the dates and the settlements begin.
+const DATES: usize = 2;
+
+const SETTLEMENTS: usize = DATES + WINDOW_LENGTH;
 
 pub enum Line {
     Limits {
@@ -49,17 +59,17 @@ fn is_misshapen(file: &[u8]) -> bool
     if file.len() != 8 + 8 * (count as usize) {
         return true;
     }
-    count != 45
+    count != COUNT
 }
 
-// The 45 words from word `from` on.
-fn words(file: &[u8], from: usize) -> [u32; 45]
-    requires { ⌜ 4 * (from + 45) ≤ length (now file) ⌝ }
-    ensures { λ r. ⌜ r ≡ wordsFrom (now (file .entry)) from 45 ⌝ }
+// A window's words from word `from` on.
+fn words(file: &[u8], from: usize) -> [u32; WINDOW_LENGTH]
+    requires { ⌜ 4 * (from + windowLength) ≤ length (now file) ⌝ }
+    ensures { λ r. ⌜ r ≡ wordsFrom (now (file .entry)) from windowLength ⌝ }
 {
-    let mut out = [0u32; 45];
+    let mut out = [0u32; WINDOW_LENGTH];
     let mut i = 0;
-    while i < 45 {
+    while i < WINDOW_LENGTH {
         out[i] = word(file, from + i);
         i += 1;
     }
@@ -116,13 +126,13 @@ pub fn line_of(file: &[u8]) -> Line
     if !grain::is_product(product) {
         return Line::Refused(NO_SUCH_PRODUCT);
     }
-    let dates = words(file, 2);
+    let dates = words(file, DATES);
     if !are_dates(&dates) {
         return Line::Refused(NO_SUCH_DATE);
     }
     if !is_ascending(&dates) {
         return Line::Refused(NO_SUCH_DATE);
     }
-    let settlements = words(file, 47);
+    let settlements = words(file, SETTLEMENTS);
     limits_line(product, grain::season_limits(product, &settlements))
 }

@@ -7,6 +7,7 @@ ghost use Rattle.sheets.specs.Sheets.{sheetIn, SheetOf};
 use crate::Sheet;
 use crate::reach;
 use record::Contract;
+use record::MAX_CONTRACTS;
 
 pub fn is_misshapen(months: &[u32], settlements: &[u32]) -> bool
     ensures { λ r. ⌜ r ≡ isMisshapen (now (months .entry)) (now (settlements .entry)) ⌝ }
@@ -17,7 +18,7 @@ pub fn is_misshapen(months: &[u32], settlements: &[u32]) -> bool
     if months.len() == 0 {
         return true;
     }
-    16 < months.len()
+    MAX_CONTRACTS < months.len()
 }
 
 fn smaller(a: usize, b: usize) -> usize
@@ -38,7 +39,7 @@ impl Sheet {
         let mut all = [Contract {
             month: 0,
             settlement: 0,
-        }; 16];
+        }; MAX_CONTRACTS];
         for i in 0..n {
             all[i] = Contract {
                 month: months[i],
@@ -58,7 +59,7 @@ impl Sheet {
             contracts: [Contract {
                 month: 0,
                 settlement: 0,
-            }; 16],
+            }; MAX_CONTRACTS],
             len: 0,
         }
     }

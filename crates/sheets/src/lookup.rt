@@ -3,6 +3,7 @@ ghost use mathlib.Core.Path.{_≡_};
 ghost use Rattle.record.specs.State.{settlementOn};
 ghost use Rattle.sheets.specs.Sheets.{entriesOf, listedAs};
 use crate::Sheet;
+use record::MAX_CONTRACTS;
 
 pub enum Listed {
     At(u32),
@@ -16,7 +17,7 @@ impl Sheet {
         let n = self.len;
         for i in 0..n {
             // Inside the loop: with the bound in `n` the compiler makes a slower loop of it.
-            if 16 <= i {
+            if MAX_CONTRACTS <= i {
                 return Listed::Nothing;
             }
             let c = self.contracts[i];

@@ -9,6 +9,7 @@ ghost use Rattle.sheets.specs.Sheets.{entriesOf, sheetIn, monthsOf, sett
 use crate::Sheet;
 use crate::reach;
 use record::Contract;
+use record::MAX_CONTRACTS;
 
 // A contract that may come next: its month is not before `from` and is traded, its settlement is on the tick.
 fn is_sound_contract(product: u32, tick: u32, from: u64, c: Contract) -> bool
@@ -110,7 +111,7 @@ impl Sheet {
         if n == 0 {
             return true;
         }
-        if 16 < n {
+        if MAX_CONTRACTS < n {
             return false;
         }
         self.are_sound(product)

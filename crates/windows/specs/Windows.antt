@@ -1,11 +1,13 @@
 -- What the windows of a book mean: for each product, the collected settlements within its size.
-use Prim.Native.Nat.{ℕ, _*_}
 use mathlib.Core.Path.{_≡_}
 use mathlib.Core.Bool.{Bool, false, _&&_, cond}
 use mathlib.Core.List.{List, []}
 use mathlib.Core.Option.{some}
-use lib.Dec.{leb, ltb}
 use lib.ListN.{getD, take, drop, replicate}
+use Prim.Native.Nat.{ℕ, _+_, _*_}
+use lib.Dec.{leb}
+use Rattle.grain.specs.Products.{isProduct}
+use Rattle.grain.specs.Amounts.{windowLength}
 use Rattle.record.specs.Window.{collect}
 use Rattle.windows.specs.declared.Windows.{Windows}
 
@@ -14,11 +16,12 @@ sizeOf w p = getD (w .sizes) p 0
 
 -- a size beyond the 45 places is shown as a window that is too long, which no sound book has
 unfoldable pub windowOf : Windows → ℕ → List ℕ
-windowOf w p = cond (leb (sizeOf w p) 45) (take (sizeOf w p) (drop (45 * p) (w .settlements))) (replicate 46 0)
+windowOf w p = cond (leb (sizeOf w p) windowLength) (take (sizeOf w p) (drop (windowLength * p) (w .settlements)))
+    (replicate (windowLength + 1) 0)
 
 -- a product's window, of a size that is not damaged
 abbrev pub canCollect : Windows → ℕ → Bool
-canCollect w p = ltb p 8 && leb (sizeOf w p) 45
+canCollect w p = isProduct p && leb (sizeOf w p) windowLength
 
 -- one settlement more, where the window can collect
 abbrev pub collectedIn : Windows → ℕ → ℕ → List ℕ
@@ -33,7 +36,7 @@ pub record Changed (w : Windows) (p : ℕ) (window : List ℕ) (r : Windows) : T
 -- what emptying and collecting promise: a number that is no product, and for collecting a damaged window, leave the very windows
 pub record Empties (w : Windows) (p : ℕ) (r : Windows) : Type 0 where
   pub changed : Changed w p [] r
-  pub unchanged : ltb p 8 ≡ false → r ≡ w
+  pub unchanged : isProduct p ≡ false → r ≡ w
 
 pub record Collects (w : Windows) (p v : ℕ) (r : Windows) : Type 0 where
   pub changed : Changed w p (collectedIn w p v) r

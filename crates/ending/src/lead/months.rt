@@ -3,6 +3,7 @@ ghost use mathlib.Core.Path.{_≡_};
 ghost use Prim.Native.Nat.{_≤_};
 ghost use Rattle.sheets.specs.Sheets.{contractsOf};
 ghost use Rattle.ending.specs.Search.{sooner, nextIn};
+ghost use Rattle.record.specs.State.{maxContracts};
 use sheets::Sheet;
 
 fn sooner_of(after: u32, best: u32, month: u32) -> u32
@@ -22,7 +23,7 @@ fn sooner_of(after: u32, best: u32, month: u32) -> u32
 
 // The nearest month after a month on a sheet, or best where that is nearer; 0 is none.
 pub(crate) fn next_in(s: Sheet, after: u32, best: u32) -> u32
-    requires { ⌜ s .len ≤ 16 ⌝ }
+    requires { ⌜ s .len ≤ maxContracts ⌝ }
     ensures { λ r. ⌜ r ≡ nextIn after best (contractsOf s) ⌝ }
 {
     let n = s.len;

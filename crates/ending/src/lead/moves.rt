@@ -4,6 +4,7 @@ ghost use Prim.Native.Nat.{_≤_};
 ghost use Rattle.grain.specs.Spot.{isSpot};
 ghost use Rattle.sheets.specs.Sheets.{contractsOf};
 ghost use Rattle.ending.specs.Search.{oneIfEarlier, countEarlier, meetsIn};
+ghost use Rattle.record.specs.State.{maxContracts};
 use crate::lead::Condition;
 use book::Limit;
 use grain::TradeDate;
@@ -24,7 +25,7 @@ fn one_if_earlier(month: u32, than: u32, date: TradeDate) -> u32
 
 // How many non-spot contracts of a sheet are before a month.
 fn count_earlier(s: Sheet, month: u32, date: TradeDate) -> u32
-    requires { ⌜ s .len ≤ 16 ⌝ }
+    requires { ⌜ s .len ≤ maxContracts ⌝ }
     ensures { λ r. ⌜ r ≡ countEarlier (isSpot date) month (contractsOf s) ⌝ }
 {
     let n = s.len;
@@ -46,7 +47,7 @@ pub(crate) fn meets_in(
     month: u32,
     date: TradeDate,
 ) -> bool
-    requires { ⌜ (current .len ≤ 16) × (last .len ≤ 16) ⌝ }
+    requires { ⌜ (current .len ≤ maxContracts) × (last .len ≤ maxContracts) ⌝ }
     ensures { λ r. ⌜ r ≡ meetsIn condition date product limit current last month ⌝ }
 {
     if date.is_spot(month) {

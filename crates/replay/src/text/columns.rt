@@ -1,11 +1,18 @@
 // What a book has for each group and each product, in a row; sheets and windows within their counts.
 ghost use Prim.Native.Nat.{_<_};
+ghost use Rattle.grain.specs.Products.{productCount};
+ghost use Rattle.grain.specs.Amounts.{windowLength};
+ghost use Rattle.record.specs.State.{maxContracts};
 use crate::text::output::Buffer;
 use crate::text::output::put_bit;
 use crate::text::output::put_byte;
 use crate::text::output::put_number;
 use book::Limit;
 use book::Standing;
+use grain::PRODUCT_COUNT;
+use grain::WINDOW_LENGTH;
+use record::GROUP_COUNT;
+use record::MAX_CONTRACTS;
 use sheets::Sheet;
 use windows::Windows;
 
@@ -30,9 +37,14 @@ fn bit_of(s: Standing, bit: Bit) -> bool {
     }
 }
 
-pub(crate) fn put_bits(out: &mut Buffer, at: usize, standings: [Standing; 6], bit: Bit) -> usize {
+pub(crate) fn put_bits(
+    out: &mut Buffer,
+    at: usize,
+    standings: [Standing; GROUP_COUNT],
+    bit: Bit,
+) -> usize {
     let mut end = at;
-    for g in 0..6usize {
+    for g in 0..GROUP_COUNT {
         let s = standings[g];
         end = put_bit(out, end, bit_of(s, bit));
     }
@@ -52,9 +64,14 @@ fn amount_of(limit: Limit, amount: Amount) -> u32 {
     }
 }
 
-pub(crate) fn put_limits(out: &mut Buffer, at: usize, limits: [Limit; 8], amount: Amount) -> usize {
+pub(crate) fn put_limits(
+    out: &mut Buffer,
+    at: usize,
+    limits: [Limit; PRODUCT_COUNT],
+    amount: Amount,
+) -> usize {
     let mut end = at;
-    for p in 0..8usize {
+    for p in 0..PRODUCT_COUNT {
         let limit = limits[p];
         end = put_mark(out, end, b',', p);
         end = put_number(out, end, amount_of(limit, amount));
@@ -64,20 +81,20 @@ pub(crate) fn put_limits(out: &mut Buffer, at: usize, limits: [Limit; 8], amount
 
 // Place i of a window, where it has so many.
 fn put_settlement(out: &mut Buffer, at: usize, w: Windows, p: usize, i: usize) -> usize
-    requires { ⌜ (p < 8) × (i < 45) ⌝ }
+    requires { ⌜ (p < productCount) × (i < windowLength) ⌝ }
 {
     if w.sizes[p] <= i {
         return at;
     }
     let a = put_mark(out, at, b',', i);
-    put_number(out, a, w.settlements[45 * p + i])
+    put_number(out, a, w.settlements[WINDOW_LENGTH * p + i])
 }
 
 fn put_window(out: &mut Buffer, at: usize, w: Windows, p: usize) -> usize
-    requires { ⌜ p < 8 ⌝ }
+    requires { ⌜ p < productCount ⌝ }
 {
     let mut end = put_byte(out, at, b'[');
-    for i in 0..45usize {
+    for i in 0..WINDOW_LENGTH {
         end = put_settlement(out, end, w, p, i);
     }
     put_byte(out, end, b']')
@@ -85,7 +102,7 @@ fn put_window(out: &mut Buffer, at: usize, w: Windows, p: usize) -> usize
 
 pub(crate) fn put_windows(out: &mut Buffer, at: usize, w: Windows) -> usize {
     let mut end = at;
-    for p in 0..8usize {
+    for p in 0..PRODUCT_COUNT {
         end = put_mark(out, end, b';', p);
         end = put_window(out, end, w, p);
     }
@@ -94,7 +111,7 @@ pub(crate) fn put_windows(out: &mut Buffer, at: usize, w: Windows) -> usize {
 
 // Place i of a sheet, where it has so many.
 fn put_contract(out: &mut Buffer, at: usize, s: Sheet, i: usize) -> usize
-    requires { ⌜ i < 16 ⌝ }
+    requires { ⌜ i < maxContracts ⌝ }
 {
     if s.len <= i {
         return at;
@@ -111,15 +128,15 @@ fn put_sheet(out: &mut Buffer, at: usize, s: Sheet) -> usize {
         return put_byte(out, at, b'-');
     }
     let mut end = put_byte(out, at, b'[');
-    for i in 0..16usize {
+    for i in 0..MAX_CONTRACTS {
         end = put_contract(out, end, s, i);
     }
     put_byte(out, end, b']')
 }
 
-pub(crate) fn put_sheets(out: &mut Buffer, at: usize, sheets: [Sheet; 8]) -> usize {
+pub(crate) fn put_sheets(out: &mut Buffer, at: usize, sheets: [Sheet; PRODUCT_COUNT]) -> usize {
     let mut end = at;
-    for p in 0..8usize {
+    for p in 0..PRODUCT_COUNT {
         let s = sheets[p];
         end = put_mark(out, end, b';', p);
         end = put_sheet(out, end, s);

@@ -4,9 +4,11 @@ use crate::text::output::put;
 use crate::text::output::put_bit;
 use crate::text::output::put_byte;
 use crate::text::output::put_number;
+use grain::PRODUCT_COUNT;
 use grain::Span;
 use grain::Verdict;
 use record::Event;
+use record::GROUP_COUNT;
 use record::GroupEvent;
 use record::Lead;
 
@@ -47,9 +49,9 @@ pub(crate) fn put_verdict(out: &mut Buffer, at: usize, verdict: Verdict) -> usiz
     }
 }
 
-pub(crate) fn put_renewed(out: &mut Buffer, at: usize, renewed: [bool; 8]) -> usize {
+pub(crate) fn put_renewed(out: &mut Buffer, at: usize, renewed: [bool; PRODUCT_COUNT]) -> usize {
     let mut end = put(out, at, b"opened");
-    for p in 0..8usize {
+    for p in 0..PRODUCT_COUNT {
         end = put_byte(out, end, b' ');
         end = put_bit(out, end, renewed[p]);
     }
@@ -79,9 +81,9 @@ fn put_event(out: &mut Buffer, at: usize, event: Event) -> usize {
     }
 }
 
-pub(crate) fn put_events(out: &mut Buffer, at: usize, events: [GroupEvent; 6]) -> usize {
+pub(crate) fn put_events(out: &mut Buffer, at: usize, events: [GroupEvent; GROUP_COUNT]) -> usize {
     let mut end = put(out, at, b"ended");
-    for g in 0..6usize {
+    for g in 0..GROUP_COUNT {
         let e = events[g];
         let event = e.event;
         end = put_event(out, end, event);

@@ -34,6 +34,9 @@ whole-steps-requires c κs =
     let p = c .before .before .args .product in
     omega (arith, c .step .ensures, step-positive p (c .before .if1 .left), step-small p (c .before .if1 .left))
 
+cast-if2 : tie.Need-cast-if2
+cast-if2 c = search needs
+
 returns-2 : tie.Need-returns-2
 unfolding expandedBy
 returns-2 c =
@@ -60,6 +63,7 @@ expanded-spec =
     sub-whole-steps
     add-whole-steps
     whole-steps-requires
+    cast-if2
     returns-2
     cast-result
     returns-3)

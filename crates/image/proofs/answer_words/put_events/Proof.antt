@@ -3,6 +3,7 @@ use native.Mathlib.Omega.{arith}
 use Prim.Native.Nat.{_-_, _*_, _≤_}
 use mathlib.Core.Path.{_≡_, sym, _∙_}
 use lib.ListN.{length}
+use Rattle.record.specs.State.{groupCount}
 use Rattle.sheets.proofs.Rest.{mapped}
 use Rattle.image.specs.Places.{eventWords}
 use Rattle.image.specs.Words.{flat}
@@ -14,13 +15,13 @@ use Rattle.image.proofs.answer_words.put_events.Statement.{statement}
 use Rattle.image.proofs.answer_words.put_events.Tie as tie
 
 abbrev Inv-loop : tie.InvT-loop
-Inv-loop out₀ events g₀ out g = (g ≤ 6) × Toward (6 * eventWords) (flat wordsOfGroupEvent events) (eventWords * g) out
+Inv-loop out₀ events g₀ out g = (g ≤ groupCount) × Toward (groupCount * eventWords) (flat wordsOfGroupEvent events) (eventWords * g) out
 
 abbrev μ-loop : tie.MeasureT-loop
-μ-loop out₀ events g₀ out g = 6 - g
+μ-loop out₀ events g₀ out g = groupCount - g
 
 loop-holds : tie.Need-loop-holds Inv-loop μ-loop
-loop-holds c = (search needs, toward-start (6 * eventWords) _ _ (c .before .pre))
+loop-holds c = (search needs, toward-start (groupCount * eventWords) _ _ (c .before .pre))
 
 mul-one : tie.Need-mul-one Inv-loop μ-loop
 mul-one c = search needs
@@ -59,9 +60,9 @@ loop-again : tie.Need-loop-again Inv-loop μ-loop
 loop-again c =
     let k = c .before .before .before .before .before .before in
     let a = k .before .before .args in
-    let long : length (a .t2) ≡ 6 = search mapped in
+    let long : length (a .t2) ≡ groupCount = search mapped in
     let put = c .before .before .put-event .ensures in
-    (omega arith, put-next wordsOfGroupEvent eventWords quiet 6 (a .t2) (k .loop .g) _ _ long (omega arith) (omega arith) (events-sized (a .t2) _) (k .loop .inv .1) put)
+    (omega arith, put-next wordsOfGroupEvent eventWords quiet groupCount (a .t2) (k .loop .g) _ _ long (omega arith) (omega arith) (events-sized (a .t2) _) (k .loop .inv .1) put)
 
 same-length : tie.Need-same-length Inv-loop μ-loop
 same-length c = c .before .loop .inv .1 .long ∙ sym (c .before .before .before .pre)
@@ -70,8 +71,8 @@ returns : tie.Need-returns Inv-loop μ-loop
 returns c =
     let k = c .before in
     let a = k .before .before .args in
-    let long : length (a .t2) ≡ 6 = search mapped in
-    (put-end wordsOfGroupEvent eventWords quiet 6 (a .t2) (k .loop .g) _ long (omega arith) (events-sized (a .t2) _) (k .loop .inv .1), long)
+    let long : length (a .t2) ≡ groupCount = search mapped in
+    (put-end wordsOfGroupEvent eventWords quiet groupCount (a .t2) (k .loop .g) _ long (omega arith) (events-sized (a .t2) _) (k .loop .inv .1), long)
 
 pub put-events-spec : {M : Type 1} → statement M
 put-events-spec =

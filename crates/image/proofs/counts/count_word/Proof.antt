@@ -9,6 +9,9 @@ cast-result c = search needs
 returns : tie.Need-returns
 returns c = rw (le-leb (c .before .args .n) (c .before .args .most) (c .if1 .taken))
 
+cast-result-2 : tie.Need-cast-result-2
+cast-result-2 c = search needs
+
 add-result : tie.Need-add-result
 add-result c = search needs
 
@@ -16,4 +19,4 @@ returns-2 : tie.Need-returns-2
 returns-2 c = rw (lt-leb (c .before .args .n) (c .before .args .most) (c .if1 .left))
 
 pub count-word-spec : {M : Type 1} → statement M
-count-word-spec = tie.close (tie.spec cast-result returns add-result returns-2)
+count-word-spec = tie.close (tie.spec cast-result returns cast-result-2 add-result returns-2)

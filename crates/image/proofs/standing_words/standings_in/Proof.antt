@@ -2,6 +2,7 @@ use borrow.Author.Needs.{needs}
 use native.Mathlib.Omega.{arith}
 use Prim.Native.Nat.{_-_, _≤_}
 use mathlib.Core.Path.{refl, _∙_}
+use Rattle.record.specs.State.{groupCount}
 use Rattle.book.specs.Book.{noStanding}
 use Rattle.image.specs.Places.{standingWords}
 use Rattle.image.specs.Words.{chunks}
@@ -12,13 +13,13 @@ use Rattle.image.proofs.standing_words.standings_in.Statement.{statemen
 use Rattle.image.proofs.standing_words.standings_in.Tie as tie
 
 abbrev Inv-loop : tie.InvT-loop
-Inv-loop s all₀ g₀ all g = (g ≤ 6) × Toward 6 (chunks standingWords standingOf 6 s) g all
+Inv-loop s all₀ g₀ all g = (g ≤ groupCount) × Toward groupCount (chunks standingWords standingOf groupCount s) g all
 
 abbrev μ-loop : tie.MeasureT-loop
-μ-loop s all₀ g₀ all g = 6 - g
+μ-loop s all₀ g₀ all g = groupCount - g
 
 loop-holds : tie.Need-loop-holds Inv-loop μ-loop
-loop-holds c = (search needs, toward-start 6 _ _ refl)
+loop-holds c = (search needs, toward-start groupCount _ _ refl)
 
 mul-at : tie.Need-mul-at Inv-loop μ-loop
 mul-at c = search needs
@@ -57,13 +58,13 @@ loop-again : tie.Need-loop-again Inv-loop μ-loop
 loop-again c =
     let k = c .before .before .before in
     let s = k .before .before .args .s .now in
-    let read = c .standing-in .ensures ∙ chunk-lent standingWords standingOf 6 s (k .loop .g) noStanding (omega arith) in
-    (omega arith, toward-next 6 _ (chunks-long standingWords standingOf 6 s) (k .loop .g) _ (k .loop .inv .1) noStanding _ (omega arith) read)
+    let read = c .standing-in .ensures ∙ chunk-lent standingWords standingOf groupCount s (k .loop .g) noStanding (omega arith) in
+    (omega arith, toward-next groupCount _ (chunks-long standingWords standingOf groupCount s) (k .loop .g) _ (k .loop .inv .1) noStanding _ (omega arith) read)
 
 returns : tie.Need-returns Inv-loop μ-loop
 returns c =
     let k = c .before in
-    toward-end 6 _ (chunks-long standingWords standingOf 6 (k .before .before .args .s .now)) (k .loop .g) _ (k .loop .inv .1) (omega arith)
+    toward-end groupCount _ (chunks-long standingWords standingOf groupCount (k .before .before .args .s .now)) (k .loop .g) _ (k .loop .inv .1) (omega arith)
 
 pub standings-in-spec : {M : Type 1} → statement M
 standings-in-spec =

@@ -2,6 +2,7 @@ use borrow.Author.Needs.{needs}
 use Prim.Native.Nat.{_*_}
 use mathlib.Core.Path.{_≡_, refl, _∙_}
 use lib.ListN.{replicate}
+use Rattle.record.specs.State.{groupCount}
 use Rattle.image.specs.Places.{eventWords}
 use Rattle.image.specs.Words.{flat}
 use Rattle.image.specs.Answers.{wordsOfGroupEvent}
@@ -10,7 +11,7 @@ use Rattle.image.proofs.Puts.{founded-put}
 use Rattle.image.proofs.whole.write_founded.Statement.{statement}
 use Rattle.image.proofs.whole.write_founded.Tie as tie
 
-none-ended : flat wordsOfGroupEvent (replicate 6 quiet) ≡ replicate (6 * eventWords) 0
+none-ended : flat wordsOfGroupEvent (replicate groupCount quiet) ≡ replicate (groupCount * eventWords) 0
 unfolding flat
 none-ended = refl
 

@@ -1,5 +1,6 @@
 use Prim.Native.Nat.{_-_}
 use borrow.Author.Needs.{needs}
+use Rattle.record.specs.State.{groupCount}
 use Rattle.replay.proofs.text.replies.put_events.Statement.{statement}
 use Rattle.replay.proofs.text.replies.put_events.Tie as tie
 
@@ -7,7 +8,7 @@ abbrev Inv-loop : tie.InvT-loop
 Inv-loop out₀ at events end₀ g₀ out end g = Unit {0}
 
 abbrev μ-loop : tie.MeasureT-loop
-μ-loop out₀ at events end₀ g₀ out end g = 6 - g
+μ-loop out₀ at events end₀ g₀ out end g = groupCount - g
 
 slice-aggregate-put : tie.Need-slice-aggregate-put Inv-loop μ-loop
 slice-aggregate-put c = search needs
