@@ -8,6 +8,7 @@ use lib.Dec.{ltb, eqb}
 use lib.ListN.{length, getD, set, length-set}
 use lib.Seq.{getD-set-same, getD-set-other}
 use borrow.Author.Tests.{lt-ltb, le-ltb, ltb-true, ltb-false, eqb-true, eqb-false}
+use native.Mathlib.Nat.{le-refl}
 
 pub record Filled {A : Type 0} (n : ℕ) (d : A) (new old : ℕ → A) (p : ℕ) (xs : List A) : Type 0 where
   pub long : length xs ≡ n
@@ -38,3 +39,7 @@ module _ {A : Type 0} (n : ℕ) (d : A) (new : ℕ → A) where
 
     pub filled-end : n ≤ p → (q : ℕ) → q < n → getD xs q d ≡ new q
     filled-end l q h = f .at q h ∙ rw (lt-ltb q p (omega arith))
+
+    -- not yet come to
+    pub unfilled : p < n → getD xs p d ≡ old p
+    unfilled l = f .at p l ∙ rw (le-ltb p p (le-refl p))

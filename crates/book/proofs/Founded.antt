@@ -1,29 +1,34 @@
--- A book with eight limits and nothing else in it shows a founded Record.
+-- A book with a limit for each product and nothing else in it shows a founded Record.
 use Prim.Native.Nat.{ℕ, _<_}
-use mathlib.Core.Path.{_≡_, refl}
-use mathlib.Core.Bool.{false}
-use mathlib.Core.List.{List, []}
 use mathlib.Core.Option.{none}
 use lib.ListN.{length, getD, replicate, getD-replicate}
 use borrow.Author.Tests.{ltb-true, eq-eqb}
+use mathlib.Core.Path.{_≡_, refl, sym, _∙_}
+use mathlib.Core.Bool.{true, false}
+use mathlib.Core.List.{List, [], map}
 use Rattle.grain.specs.Lists.{_and_, every}
 use Rattle.grain.specs.Amounts.{expandedOf, isFitFounding}
-use Rattle.record.specs.State.{groupTable, noDay}
+use Rattle.grain.specs.Products.{productCount, isProduct}
 use Rattle.record.specs.Founding.{Start, limitOf, isFitStart, foundProduct, foundGroup, founded}
+use Rattle.record.specs.State.{groupTable, groupCount, noDay}
+use Rattle.record.specs.History.{productsOf}
+use Rattle.record.proofs.GroupTable.{small-products}
 use Rattle.sheets.specs.Sheets.{sheetIn}
 use Rattle.windows.specs.Windows.{windowOf}
 use Rattle.book.specs.declared.Book.{Book}
 use Rattle.book.specs.declared.Limit.{Limit}
 use Rattle.book.specs.Book.{noStanding, noSheet, limitIn, viewProduct, viewGroup, viewCommon, view}
 use Rattle.book.specs.Founding.{emptySheet, emptyWindows, noBook}
-use Rattle.book.specs.Soundness.{eight}
+use Rattle.book.specs.Numbers.{allProducts, allGroups}
 use Rattle.book.proofs.Everies.{every-concat}
+use Rattle.book.proofs.Numbers.{map-same}
+use Rattle.book.proofs.Views.{shownGroup, groups-are, same-groups}
 
 -- 13 is asked of each product in turn
-pub fit-is : (s : Start) → length (s .limits) ≡ 8 → isFitStart s ≡ every (λ p. isFitFounding p (limitOf s p)) eight
+pub fit-is : (s : Start) → length (s .limits) ≡ productCount → isFitStart s ≡ every (λ p. isFitFounding p (limitOf s p)) allProducts
 unfolding isFitStart groupTable _and_
 fit-is s long =
-    rw (eq-eqb (length (s .limits)) 8 long) (every-concat (λ p. isFitFounding p (limitOf s p)) (λ (ps : List ℕ). ps) groupTable)
+    rw (eq-eqb (length (s .limits)) productCount long) (every-concat (λ p. isFitFounding p (limitOf s p)) (λ (ps : List ℕ). ps) groupTable)
 
 -- the limits of a founded product
 abbrev pub limitsFrom : Start → ℕ → Limit
@@ -31,10 +36,10 @@ limitsFrom s p = record { initial = limitOf s p; expanded = expandedOf p (limitO
 
 -- all but the limits is as in a book with nothing in it
 pub record Blank (b : Book) : Type 0 where
-  pub standings : b .standings ≡ replicate 6 noStanding
+  pub standings : b .standings ≡ replicate groupCount noStanding
   pub windows : b .windows ≡ emptyWindows
-  pub today : b .today ≡ replicate 8 emptySheet
-  pub last : b .last ≡ replicate 8 emptySheet
+  pub today : b .today ≡ replicate productCount emptySheet
+  pub last : b .last ≡ replicate productCount emptySheet
   pub day : b .day ≡ noDay
   pub isOpen : b .«is_open» ≡ false
 
@@ -42,25 +47,38 @@ pub no-book-blank : Blank noBook
 unfolding noBook
 no-book-blank = record { standings = refl; windows = refl; today = refl; last = refl; day = refl; isOpen = refl }
 
-pub no-book-long : length (noBook .limits) ≡ 8
+pub no-book-long : length (noBook .limits) ≡ productCount
 unfolding noBook
 no-book-long = refl
 
-empty-window : (p : ℕ) → p < 8 → windowOf emptyWindows p ≡ []
+empty-window : (p : ℕ) → p < productCount → windowOf emptyWindows p ≡ []
 unfolding windowOf
-empty-window p l = rw (getD-replicate {A = ℕ} 8 p 0 0 l)
+empty-window p l = rw (getD-replicate {A = ℕ} productCount p 0 0 l)
 
-empty-sheet : (p : ℕ) → p < 8 → sheetIn (getD (replicate 8 emptySheet) p noSheet) ≡ none
+empty-sheet : (p : ℕ) → p < productCount → sheetIn (getD (replicate productCount emptySheet) p noSheet) ≡ none
 unfolding sheetIn
-empty-sheet p l = rw (getD-replicate 8 p emptySheet noSheet l)
+empty-sheet p l = rw (getD-replicate productCount p emptySheet noSheet l)
 
-module _ (b : Book) (s : Start) (blank : Blank b) (limits : (p : ℕ) → p < 8 → limitIn b p ≡ limitsFrom s p) where
-  product-shown : (p : ℕ) → p < 8 → viewProduct b p ≡ foundProduct s p
+module _ (b : Book) (s : Start) (blank : Blank b) (limits : (p : ℕ) → p < productCount → limitIn b p ≡ limitsFrom s p) where
+  product-shown : (p : ℕ) → isProduct p ≡ true → viewProduct b p ≡ foundProduct s p
   unfolding viewProduct foundProduct
-  product-shown p l =
+  product-shown p t =
+      let l : p < productCount = ltb-true p productCount t in
       rw (limits p l, blank .windows, blank .today, blank .last, empty-window p l, empty-sheet p l)
 
+  group-shown : (g : ℕ) → g < groupCount → shownGroup b g ≡ foundGroup s (productsOf g)
+  unfolding viewGroup foundGroup
+  group-shown g l =
+      let products = map-same isProduct (viewProduct b) (foundProduct s) product-shown (productsOf g) (small-products g l) in
+      rw (products, blank .standings, getD-replicate groupCount g noStanding noStanding l)
+
+  -- the groups of a founded Record, number by number
+  founded-groups : map (foundGroup s) groupTable ≡ map (λ g. foundGroup s (productsOf g)) allGroups
+  unfolding groupTable
+  founded-groups = refl
+
   pub founded-shown : view b ≡ founded s
-  unfolding view viewCommon viewGroup viewProduct founded foundGroup foundProduct groupTable
+  unfolding view viewCommon founded
   founded-shown =
-      rw (blank .day, blank .isOpen, blank .standings, product-shown 0 (ltb-true 0 8 refl), product-shown 1 (ltb-true 1 8 refl), product-shown 2 (ltb-true 2 8 refl), product-shown 3 (ltb-true 3 8 refl), product-shown 4 (ltb-true 4 8 refl), product-shown 5 (ltb-true 5 8 refl), product-shown 6 (ltb-true 6 8 refl), product-shown 7 (ltb-true 7 8 refl))
+      let groups = groups-are b ∙ same-groups (shownGroup b) (λ g. foundGroup s (productsOf g)) group-shown ∙ sym founded-groups in
+      rw (groups, blank .day, blank .isOpen)

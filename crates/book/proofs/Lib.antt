@@ -1,5 +1,6 @@
 pub mod Filled
 pub mod Numbers
+pub mod ProductsBefore
 pub mod Either
 pub mod Everies
 pub mod Shown
@@ -9,7 +10,7 @@ pub mod TradeDates
 pub mod Founded
 pub mod Unfounded
 pub mod Views
-pub mod Groups
+pub mod TodaysLimit
 pub mod Numbered
 pub mod Responses
 pub mod FoundingNumbers

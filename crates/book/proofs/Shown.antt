@@ -11,21 +11,25 @@ use Rattle.grain.proofs.Every.{every-mapped}
 use Rattle.record.specs.Choices.{concatMap, isSome}
 use Rattle.record.specs.State.{Product, Group, groupTable}
 use Rattle.record.specs.Sound.{isSoundSheet, isSoundWindow, isSoundProduct, isExpanded, isSoundGroup, isSoundCommon, everyProduct, isSound}
+use Rattle.record.specs.History.{productsOf}
 use Rattle.sheets.specs.Sheets.{sheetIn}
 use Rattle.book.specs.declared.Book.{Book}
 use Rattle.book.specs.Book.{limitIn, standingIn, todayIn, lastIn, levelOf, openedOf, viewProduct, viewGroup, viewGroups, viewCommon, view}
-use Rattle.book.specs.Soundness.{eight, six, isMarkSound, areItemsSound, isWindowSound}
+use Rattle.book.specs.Soundness.{isMarkSound, areItemsSound, isWindowSound}
+use Rattle.book.specs.Numbers.{allProducts, allGroups}
 use Rattle.book.proofs.Everies.{and-late, every-both, every-concat}
+use Rattle.book.proofs.Numbers.{every-same}
+use Rattle.book.proofs.Views.{shownGroup, groups-are}
 
-products-are : (b : Book) → concatMap (λ (g : Group). g .products) (viewGroups b 0 groupTable) ≡ map (viewProduct b) eight
+products-are : (b : Book) → concatMap (λ (g : Group). g .products) (viewGroups b 0 groupTable) ≡ map (viewProduct b) allProducts
 unfolding groupTable viewGroup
 products-are b = refl
 
-pub flat : (b : Book) (f : Product → Bool) → everyProduct f (viewGroups b 0 groupTable) ≡ every (λ p. f (viewProduct b p)) eight
+pub flat : (b : Book) (f : Product → Bool) → everyProduct f (viewGroups b 0 groupTable) ≡ every (λ p. f (viewProduct b p)) allProducts
 flat b f =
     every-concat f (λ (g : Group). g .products) (viewGroups b 0 groupTable)
     ∙ ap (every f) (products-are b)
-    ∙ every-mapped (λ p. f (viewProduct b p)) (viewProduct b) f (λ p. refl) eight
+    ∙ every-mapped (λ p. f (viewProduct b p)) (viewProduct b) f (λ p. refl) allProducts
 
 -- the tests of one product: its items and its window
 product-tests : (b : Book) (p : ℕ) → isProduct p ≡ true
@@ -35,26 +39,22 @@ product-tests b p l =
     ap (λ (e : Bool). e and isFitAmount p (limitIn b p .initial) and eqb (limitIn b p .expanded) (expandedOf p (limitIn b p .initial)) and isWindowSound (b .windows) p and isSoundSheet p (sheetIn (todayIn b p)) and isSoundSheet p (sheetIn (lastIn b p))) l
     ∙ and-late (isFitAmount p (limitIn b p .initial)) (eqb (limitIn b p .expanded) (expandedOf p (limitIn b p .initial))) (isWindowSound (b .windows) p) (isSoundSheet p (sheetIn (todayIn b p))) (isSoundSheet p (sheetIn (lastIn b p)))
 
+all-products : every isProduct allProducts ≡ true
+unfolding every _and_
+all-products = refl
+
 each-product : (b : Book)
-    → every (λ p. isSoundProduct (viewProduct b p)) eight
-    ≡ every (λ p. areItemsSound p (limitIn b p) (todayIn b p) (lastIn b p) and isWindowSound (b .windows) p) eight
-unfolding every
-each-product b =
-    ap₂ _and_ (product-tests b 0 refl)
-    (ap₂ _and_ (product-tests b 1 refl)
-    (ap₂ _and_ (product-tests b 2 refl)
-    (ap₂ _and_ (product-tests b 3 refl)
-    (ap₂ _and_ (product-tests b 4 refl)
-    (ap₂ _and_ (product-tests b 5 refl)
-    (ap₂ _and_ (product-tests b 6 refl) (ap₂ _and_ (product-tests b 7 refl) refl)))))))
+    → every (λ p. isSoundProduct (viewProduct b p)) allProducts
+    ≡ every (λ p. areItemsSound p (limitIn b p) (todayIn b p) (lastIn b p) and isWindowSound (b .windows) p) allProducts
+each-product b = every-same isProduct _ _ (product-tests b) allProducts all-products
 
 -- the tests of the products: of the items of each, then of the window of each
 pub products-tests : (b : Book)
-    → every (λ p. isSoundProduct (viewProduct b p)) eight
-    ≡ every (λ p. areItemsSound p (limitIn b p) (todayIn b p) (lastIn b p)) eight and every (isWindowSound (b .windows)) eight
+    → every (λ p. isSoundProduct (viewProduct b p)) allProducts
+    ≡ every (λ p. areItemsSound p (limitIn b p) (todayIn b p) (lastIn b p)) allProducts and every (isWindowSound (b .windows)) allProducts
 products-tests b =
     each-product b
-    ∙ every-both (λ p. areItemsSound p (limitIn b p) (todayIn b p) (lastIn b p)) (isWindowSound (b .windows)) eight
+    ∙ every-both (λ p. areItemsSound p (limitIn b p) (todayIn b p) (lastIn b p)) (isWindowSound (b .windows)) allProducts
 
 -- a mark only on an expanded group, of a group as it is shown
 abbrev isMarkShownSound : Group → Bool
@@ -68,17 +68,14 @@ mark-shown : (b : Book) (g : ℕ) (ps : List ℕ) → isMarkShownSound (viewGrou
 unfolding viewGroup
 mark-shown b g ps = ap (λ (e : Bool). not (standingIn b g .marked) || e) (is-expanded (standingIn b g .expanded))
 
-marks : (b : Book) → every isMarkShownSound (viewGroups b 0 groupTable) ≡ every (λ g. isMarkSound (standingIn b g)) six
-unfolding groupTable every
+marks : (b : Book) → every isMarkShownSound (viewGroups b 0 groupTable) ≡ every (λ g. isMarkSound (standingIn b g)) allGroups
 marks b =
-    ap₂ _and_ (mark-shown b 0 _)
-    (ap₂ _and_ (mark-shown b 1 _)
-    (ap₂ _and_ (mark-shown b 2 _)
-    (ap₂ _and_ (mark-shown b 3 _) (ap₂ _and_ (mark-shown b 4 _) (ap₂ _and_ (mark-shown b 5 _) refl)))))
+    ap (every isMarkShownSound) (groups-are b)
+    ∙ every-mapped (λ g. isMarkSound (standingIn b g)) (shownGroup b) isMarkShownSound (λ g. mark-shown b g (productsOf g)) allGroups
 
 pub groups-shown : (b : Book)
     → every isSoundGroup (viewGroups b 0 groupTable)
-    ≡ every (λ g. isMarkSound (standingIn b g)) six and every (λ p. isSoundProduct (viewProduct b p)) eight
+    ≡ every (λ g. isMarkSound (standingIn b g)) allGroups and every (λ p. isSoundProduct (viewProduct b p)) allProducts
 unfolding isSoundGroup
 groups-shown b =
     every-both isMarkShownSound (λ (g : Group). every isSoundProduct (g .products)) (viewGroups b 0 groupTable)
@@ -88,10 +85,10 @@ groups-shown b =
 pub sound-is : (b : Book)
     → isSound (view b)
     ≡ (isSoundCommon (record { opened = openedOf (b .day); isOpen = b .«is_open» })
-    and (every (λ g. isMarkSound (standingIn b g)) six and every (λ p. isSoundProduct (viewProduct b p)) eight)
-    and (b .«is_open» || every (λ p. not (isSome (sheetIn (todayIn b p)))) eight)
-    and ((isSome (openedOf (b .day)) and every (λ p. isSome (sheetIn (lastIn b p))) eight)
-    || every (λ p. not (isSome (sheetIn (lastIn b p)))) eight))
+    and (every (λ g. isMarkSound (standingIn b g)) allGroups and every (λ p. isSoundProduct (viewProduct b p)) allProducts)
+    and (b .«is_open» || every (λ p. not (isSome (sheetIn (todayIn b p)))) allProducts)
+    and ((isSome (openedOf (b .day)) and every (λ p. isSome (sheetIn (lastIn b p))) allProducts)
+    || every (λ p. not (isSome (sheetIn (lastIn b p)))) allProducts))
 unfolding isSound view viewCommon viewProduct
 sound-is b =
     ap₂ _and_
@@ -106,9 +103,9 @@ sound-is b =
 pub sound-tests : (b : Book)
     → isSound (view b)
     ≡ (isSoundCommon (record { opened = openedOf (b .day); isOpen = b .«is_open» })
-    and (every (λ g. isMarkSound (standingIn b g)) six
-    and (every (λ p. areItemsSound p (limitIn b p) (todayIn b p) (lastIn b p)) eight and every (isWindowSound (b .windows)) eight))
-    and (b .«is_open» || every (λ p. not (isSome (sheetIn (todayIn b p)))) eight)
-    and ((isSome (openedOf (b .day)) and every (λ p. isSome (sheetIn (lastIn b p))) eight)
-    || every (λ p. not (isSome (sheetIn (lastIn b p)))) eight))
+    and (every (λ g. isMarkSound (standingIn b g)) allGroups
+    and (every (λ p. areItemsSound p (limitIn b p) (todayIn b p) (lastIn b p)) allProducts and every (isWindowSound (b .windows)) allProducts))
+    and (b .«is_open» || every (λ p. not (isSome (sheetIn (todayIn b p)))) allProducts)
+    and ((isSome (openedOf (b .day)) and every (λ p. isSome (sheetIn (lastIn b p))) allProducts)
+    || every (λ p. not (isSome (sheetIn (lastIn b p)))) allProducts))
 sound-tests b = sound-is b ∙ rw (products-tests b)

@@ -9,6 +9,7 @@ use lib.ListN.{length}
 use borrow.Author.Tests.{leb-true, leb-false, lt-leb, eqb-true, ne-eqb}
 use Rattle.grain.specs.Lists.{_and_, every, isAscending}
 use Rattle.grain.specs.Prices.{isSettlement}
+use Rattle.grain.specs.Products.{productCount}
 use Rattle.grain.proofs.Tests.{&&-left, &&-right, and-left, and-right}
 use Rattle.record.specs.declared.Day.{Day}
 use Rattle.record.specs.State.{dayOf}
@@ -21,10 +22,9 @@ use Rattle.windows.specs.Windows.{sizeOf, windowOf}
 use Rattle.windows.proofs.Shown.{too-long}
 use Rattle.book.specs.declared.Book.{Book}
 use Rattle.book.specs.Book.{todayIn, lastIn, isNoDay, openedOf, viewProduct, viewCommon, view}
-use Rattle.book.specs.Soundness.{eight}
-use Rattle.book.proofs.Numbers.{eight-counts, each-passes}
 use Rattle.book.proofs.SheetsIn.{none-listed}
 use Rattle.book.proofs.Shown.{sound-is}
+use Rattle.book.proofs.Numbers.{each-passes}
 
 -- a sound sheet
 beyond-unsound : (p : ℕ) (s : Sheet) → 16 < s .len → isSoundSheet p (sheetIn s) ≡ false
@@ -78,11 +78,11 @@ module _ (b : Book) (sound : isSound (view b) ≡ true) where
   common-sound : isSoundCommon (record { opened = openedOf (b .day); isOpen = b .«is_open» }) ≡ true
   common-sound = and-left _ _ (and-left _ _ (and-left _ _ (sym (sound-is b) ∙ sound)))
 
-  module _ (p : ℕ) (l : p < 8) where
+  module _ (p : ℕ) (l : p < productCount) where
     pub product-sound : isSoundProduct (viewProduct b p) ≡ true
     product-sound =
         let t = and-right _ _ (and-right _ _ (and-left _ _ (and-left _ _ (sym (sound-is b) ∙ sound)))) in
-        each-passes (λ p. isSoundProduct (viewProduct b p)) 8 eight eight-counts p t l
+        each-passes (λ p. isSoundProduct (viewProduct b p)) productCount p t l
 
     pub today-fits : todayIn b p .len ≤ 16
     today-fits = sheet-fits p (todayIn b p) (facts b p product-sound .today)

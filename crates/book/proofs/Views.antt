@@ -1,87 +1,89 @@
 -- The contents of a book by product and by group.
-use Prim.Native.Nat.{ℕ, zero, suc, _<_}
-use mathlib.Core.Path.{_≡_, refl, ap₂}
-use mathlib.Core.Bool.{true}
 use mathlib.Core.List.{List, [], _∷_, map}
-use native.Mathlib.Omega.{arith}
-use lib.Dec.{ltb, lit<}
-use borrow.Author.Tests.{ltb-true}
-use Rattle.grain.specs.Lists.{_and_, every}
-use Rattle.grain.proofs.Tests.{and-left, and-right}
-use Rattle.grain.proofs.Below.{below}
-use Rattle.record.specs.State.{Product, Group, groupTable, groupOf, groupAt, productIn}
+use Prim.Native.Nat.{ℕ, _<_}
+use mathlib.Core.Path.{_≡_, refl, sym, _∙_, ap}
+use mathlib.Core.Bool.{Bool, true, false, false≢true, _||_}
+use lib.Dec.{ltb, eqb}
+use lib.ListN.{getD}
+use borrow.Author.Tests.{ltb-true, lt-ltb, eqb-true, eq-eqb, eqb-false, ne-eqb}
+use Rattle.grain.specs.Lists.{_and_, every, isIn}
+use Rattle.grain.specs.Products.{productCount, isProduct}
 use Rattle.record.specs.History.{productsOf}
 use Rattle.record.specs.Record.{Call, next, nextCommon, nextGroup}
+use Rattle.record.specs.State.{Product, Group, groupTable, groupCount, groupOf, noGroup, groupAt, find, productIn}
+use Rattle.record.proofs.GroupTable.{group-small, own-group, small-products}
 use Rattle.book.specs.declared.Book.{Book}
 use Rattle.book.specs.Book.{viewProduct, viewGroup, viewGroups, viewCommon, view}
+use Rattle.book.specs.Numbers.{allGroups}
+use Rattle.book.proofs.Numbers.{value-at, map-same, map-twice}
 
--- eight products in turn
-pub each : (P : ℕ → Type 0) → P 0 → P 1 → P 2 → P 3 → P 4 → P 5 → P 6 → P 7 → (p : ℕ) → p < 8 → P p
-each P a b c d e f g h zero l = a
-each P a b c d e f g h (suc zero) l = b
-each P a b c d e f g h (suc (suc zero)) l = c
-each P a b c d e f g h (suc (suc (suc zero))) l = d
-each P a b c d e f g h (suc (suc (suc (suc zero)))) l = e
-each P a b c d e f g h (suc (suc (suc (suc (suc zero))))) l = f
-each P a b c d e f g h (suc (suc (suc (suc (suc (suc zero)))))) l = g
-each P a b c d e f g h (suc (suc (suc (suc (suc (suc (suc zero))))))) l = h
-each P a b c d e f g h (suc (suc (suc (suc (suc (suc (suc (suc p)))))))) l = let z : ⊥ = omega arith in absurd z
+-- a group of a book, by its number
+abbrev pub shownGroup : Book → ℕ → Group
+shownGroup b g = viewGroup b g (productsOf g)
 
--- six groups in turn
-pub each-group : (P : ℕ → Type 0) → P 0 → P 1 → P 2 → P 3 → P 4 → P 5 → (g : ℕ) → g < 6 → P g
-each-group P a b c d e f zero l = a
-each-group P a b c d e f (suc zero) l = b
-each-group P a b c d e f (suc (suc zero)) l = c
-each-group P a b c d e f (suc (suc (suc zero))) l = d
-each-group P a b c d e f (suc (suc (suc (suc zero)))) l = e
-each-group P a b c d e f (suc (suc (suc (suc (suc zero))))) l = f
-each-group P a b c d e f (suc (suc (suc (suc (suc (suc g)))))) l = let z : ⊥ = omega arith in absurd z
+-- the groups of a book, number by number: all that is shown of them follows from this
+pub groups-are : (b : Book) → viewGroups b 0 groupTable ≡ map (shownGroup b) allGroups
+unfolding groupTable
+groups-are b = refl
 
--- a group, and a product in its own
-pub group-is : (b : Book) (g : ℕ) → g < 6 → groupAt (view b) g ≡ viewGroup b g (productsOf g)
-unfolding view groupTable
-group-is b = each-group _ refl refl refl refl refl refl
+pub group-is : (b : Book) (g : ℕ) → g < groupCount → groupAt (view b) g ≡ shownGroup b g
+unfolding view
+group-is b g l =
+    ap (λ (gs : List Group). getD gs g noGroup) (groups-are b) ∙ value-at noGroup (shownGroup b) groupCount g l
 
-pub product-is : (b : Book) (p : ℕ) → p < 8 → productIn (groupAt (view b) (groupOf p)) p ≡ viewProduct b p
-unfolding view groupTable viewGroup viewProduct
-product-is b = each _ refl refl refl refl refl refl refl refl
+-- a product in its own group
+found-shown : (b : Book) (p : ℕ) (ps : List ℕ) → isIn p ps ≡ true → find p (map (viewProduct b) ps) ≡ viewProduct b p
+unfolding viewProduct
+found-shown b p [] t = absurd (false≢true t)
+found-shown b p (q ∷ ps) t = go (eqb p q) refl (found-shown b p ps)
+  where
+    go : (x : Bool) → eqb p q ≡ x → (isIn p ps ≡ true → find p (map (viewProduct b) ps) ≡ viewProduct b p)
+        → find p (map (viewProduct b) (q ∷ ps)) ≡ viewProduct b p
+    go true e later = let is = eqb-true p q e in rw (← is, eq-eqb p p refl)
+    go false e later = rw (ne-eqb q p (λ (is : q ≡ p). eqb-false p q e (sym is))) (later (rw e at t))
+
+pub product-is : (b : Book) (p : ℕ) → p < productCount → productIn (groupAt (view b) (groupOf p)) p ≡ viewProduct b p
+unfolding viewGroup
+product-is b p l =
+    ap (λ (g : Group). productIn g p) (group-is b (groupOf p) (group-small p l))
+    ∙ found-shown b p (productsOf (groupOf p)) (own-group p l)
 
 pub open-is : (b : Book) → view b .common .isOpen ≡ b .«is_open»
 unfolding view viewCommon
 open-is b = refl
 
--- from what a call does to each product and each group to the view
-module _ (b z : Book) (f : Product → Product) where
-  pub products-view : ((p : ℕ) → p < 8 → viewProduct z p ≡ f (viewProduct b p)) → (ps : List ℕ) → every (λ p. ltb p 8) ps ≡ true
-      → map (viewProduct z) ps ≡ map f (map (viewProduct b) ps)
-  unfolding every
-  products-view e [] t = refl
-  products-view e (p ∷ ps) t = ap₂ _∷_ (e p (ltb-true p 8 (and-left _ _ t))) (products-view e ps (and-right _ _ t))
-
--- every product of the table is one
-small-products : (g : ℕ) → g < 6 → every (λ p. ltb p 8) (productsOf g) ≡ true
-unfolding groupTable every _and_
-small-products = below 6 (λ (g : ℕ). every (λ p. ltb p 8) (productsOf g)) refl
-
--- from what a call does to each group to the groups of the view
-pub all-groups : (b z : Book) (k : Group → Group)
-    → ((g : ℕ) → g < 6 → viewGroup z g (productsOf g) ≡ k (viewGroup b g (productsOf g)))
-    → viewGroups z 0 groupTable ≡ map k (viewGroups b 0 groupTable)
-unfolding groupTable
-all-groups b z k e =
-    ap₂ _∷_ (e 0 (lit< tt))
-    (ap₂ _∷_ (e 1 (lit< tt)) (ap₂ _∷_ (e 2 (lit< tt)) (ap₂ _∷_ (e 3 (lit< tt)) (ap₂ _∷_ (e 4 (lit< tt)) (ap₂ _∷_ (e 5 (lit< tt)) refl)))))
+-- ---- from what a call does to each product and each group to the view
+-- the products of a list that pass a test
+pub products-view : (b z : Book) (f : Product → Product) (t : ℕ → Bool) → ((p : ℕ) → t p ≡ true → viewProduct z p ≡ f (viewProduct b p))
+    → (ps : List ℕ) → every t ps ≡ true → map (viewProduct z) ps ≡ map f (map (viewProduct b) ps)
+products-view b z f t e ps passes =
+    map-same t (viewProduct z) (λ p. f (viewProduct b p)) e ps passes ∙ sym (map-twice (viewProduct b) f ps)
 
 -- a call that changes levels by group and products one by one
-pub group-view : (b z : Book) (f : Product → Product) (g : ℕ) → g < 6
-    → ((p : ℕ) → p < 8 → viewProduct z p ≡ f (viewProduct b p))
-    → viewGroup z g (productsOf g) .products ≡ map f (viewGroup b g (productsOf g) .products)
+pub group-view : (b z : Book) (f : Product → Product) (g : ℕ) → g < groupCount
+    → ((p : ℕ) → p < productCount → viewProduct z p ≡ f (viewProduct b p))
+    → shownGroup z g .products ≡ map f (shownGroup b g .products)
 unfolding viewGroup
-group-view b z f g l e = products-view b z f e (productsOf g) (small-products g l)
+group-view b z f g l e = products-view b z f isProduct (λ p t. e p (ltb-true p productCount t)) (productsOf g) (small-products g l)
+
+small-groups : every (λ g. ltb g groupCount) allGroups ≡ true
+unfolding every _and_
+small-groups = refl
+
+-- two functions of a group's number that agree on the groups
+pub same-groups : {A : Type 0} (f h : ℕ → A) → ((g : ℕ) → g < groupCount → f g ≡ h g) → map f allGroups ≡ map h allGroups
+same-groups f h e = map-same (λ g. ltb g groupCount) f h (λ g t. e g (ltb-true g groupCount t)) allGroups small-groups
+
+all-groups : (b z : Book) (k : Group → Group) → ((g : ℕ) → g < groupCount → shownGroup z g ≡ k (shownGroup b g))
+    → viewGroups z 0 groupTable ≡ map k (viewGroups b 0 groupTable)
+all-groups b z k e =
+    groups-are z
+    ∙ same-groups (shownGroup z) (λ g. k (shownGroup b g)) e
+    ∙ sym (ap (map k) (groups-are b) ∙ map-twice (shownGroup b) k allGroups)
 
 -- the whole Record, from what is common and the groups
 pub next-view : (b z : Book) (c : Call) → viewCommon z ≡ nextCommon (viewCommon b) c
-    → ((g : ℕ) → g < 6 → viewGroup z g (productsOf g) ≡ nextGroup (viewCommon b) c (viewGroup b g (productsOf g)))
+    → ((g : ℕ) → g < groupCount → shownGroup z g ≡ nextGroup (viewCommon b) c (shownGroup b g))
     → view z ≡ next (view b) c
 unfolding view next
 next-view b z c e f = let gs = all-groups b z (nextGroup (viewCommon b) c) f in rw (e, gs)

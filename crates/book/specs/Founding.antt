@@ -3,15 +3,15 @@ use mathlib.Core.Path.{_≡_}
 use mathlib.Core.Bool.{true, false, cond}
 use lib.ListN.{replicate}
 use Rattle.grain.specs.Refusals.{unfitAmount}
-use Rattle.record.specs.State.{groupCount, maxContracts, noDay}
+use Rattle.grain.specs.Products.{productCount}
 use Rattle.record.specs.Founding.{Start, isFitStart, founded}
+use Rattle.record.specs.State.{groupCount, maxContracts, noDay}
 use Rattle.sheets.specs.declared.Sheet.{Sheet}
 use Rattle.sheets.specs.Sheets.{noContract}
 use Rattle.windows.specs.declared.Windows.{Windows}
 use Rattle.book.specs.declared.Book.{Book}
 use Rattle.book.specs.declared.founding.Founding.{Founding}
 use Rattle.book.specs.Book.{noLimit, noStanding, view}
-use Rattle.grain.specs.Products.{productCount}
 
 abbrev pub emptySheet : Sheet
 emptySheet = record { contracts = replicate maxContracts noContract; len = 0 }

@@ -1,10 +1,10 @@
--- The numbers that the soundness test runs over, and what it says of one product and of one group.
+-- What the soundness test says of one product and of one group.
 -- For the functions inside, but for areAllIn, which the end of a day asks: what the test promises is the Record's isSound alone.
 use Prim.Native.Nat.{ℕ}
 use mathlib.Core.Bool.{Bool, not, _||_}
-use mathlib.Core.List.{List, [], _∷_}
 use lib.Dec.{leb, eqb}
 use lib.ListN.{length, getD}
+use mathlib.Core.List.{List}
 use Rattle.grain.specs.Lists.{_and_, every}
 use Rattle.grain.specs.Prices.{isSettlement}
 use Rattle.grain.specs.Amounts.{windowLength, expandedOf, isFitAmount}
@@ -18,24 +18,17 @@ use Rattle.windows.specs.Windows.{windowOf}
 use Rattle.book.specs.declared.Limit.{Limit}
 use Rattle.book.specs.declared.Standing.{Standing}
 use Rattle.book.specs.Book.{noSheet, openedOf}
-
--- the products
-abbrev pub eight : List ℕ
-eight = 0 ∷ 1 ∷ 2 ∷ 3 ∷ 4 ∷ 5 ∷ 6 ∷ 7 ∷ []
-
--- the groups
-abbrev pub six : List ℕ
-six = 0 ∷ 1 ∷ 2 ∷ 3 ∷ 4 ∷ 5 ∷ []
+use Rattle.book.specs.Numbers.{allProducts}
 
 -- the sheet of product p is there
 abbrev pub hasSheet : List Sheet → ℕ → Bool
 hasSheet sheets p = isSome (sheetIn (getD sheets p noSheet))
 
 abbrev pub areAllIn : List Sheet → Bool
-areAllIn sheets = every (hasSheet sheets) eight
+areAllIn sheets = every (hasSheet sheets) allProducts
 
 abbrev pub areAllMissing : List Sheet → Bool
-areAllMissing sheets = every (λ p. not (hasSheet sheets p)) eight
+areAllMissing sheets = every (λ p. not (hasSheet sheets p)) allProducts
 
 -- the last ended sheets are all there, with a date, or none is
 abbrev pub areLastSound : Day → List Sheet → Bool

@@ -1,4 +1,4 @@
-// The book: what it holds, what that means as a Record, whether it is sound, and a fresh one.
+// The book: what it holds, what that means as a Record, whether it is sound, and a fresh one; and the groups of products.
 use grain::PRODUCT_COUNT;
 use record::Day;
 use record::GROUP_COUNT;
@@ -7,6 +7,7 @@ use windows::Windows;
 
 mod dates;
 mod founding;
+mod groups;
 mod limits;
 mod soundness;
 
@@ -14,7 +15,8 @@ pub use dates::Dated;
 pub use dates::trade_date;
 pub use founding::Founding;
 pub use founding::found;
-pub use limits::group_of;
+pub use groups::group_of;
+pub use groups::products_before;
 pub use soundness::are_all_in;
 pub use soundness::is_no_day;
 pub use soundness::is_true_day;

@@ -3,20 +3,8 @@ ghost use mathlib.Core.Path.{_≡_};
 ghost use Rattle.record.specs.State.{groupOf, groupAt, todaysLimit};
 ghost use Rattle.book.specs.Book.{view};
 use crate::Book;
+use crate::groups::group_of;
 use grain::PRODUCT_COUNT;
-
-// The group of each product: the Soybean Complex is 1, 2 and 3.
-const GROUPS: [usize; 8] = [0, 1, 1, 1, 2, 3, 4, 5];
-
-// The group that a product is in; 6, which is no group, where there is no such product.
-pub fn group_of(p: usize) -> usize
-    ensures { λ r. ⌜ r ≡ groupOf p ⌝ }
-{
-    if 8 <= p {
-        return 6;
-    }
-    GROUPS[p]
-}
 
 impl Book {
     // I or E, by the level of the product's group; 0 where there is no such product.

@@ -8,7 +8,8 @@ ghost use Rattle.grain.specs.Amounts.{expandedOf, isFitAmount};
 ghost use Rattle.record.specs.Opening.{isTrueDay};
 ghost use Rattle.record.specs.Sound.{isSoundCommon, isSound};
 ghost use Rattle.book.specs.Book.{noStanding, limitIn, todayIn, lastIn, isNoDay, openedOf, view};
-ghost use Rattle.book.specs.Soundness.{eight, six, areAllIn, areAllMissing, areLastSound, isMarkSound, areItemsSound, isWindowSound};
+ghost use Rattle.book.specs.Numbers.{allProducts, allGroups};
+ghost use Rattle.book.specs.Soundness.{areAllIn, areAllMissing, areLastSound, isMarkSound, areItemsSound, isWindowSound};
 use crate::Book;
 use crate::Limit;
 use crate::Standing;
@@ -83,7 +84,7 @@ fn is_sound_product(product: u32, limit: Limit, today: Sheet, last: Sheet) -> bo
 }
 
 fn are_products_sound(b: Book) -> bool
-    ensures { λ r. ⌜ r ≡ every (λ p. areItemsSound p (limitIn b p) (todayIn b p) (lastIn b p)) eight ⌝ }
+    ensures { λ r. ⌜ r ≡ every (λ p. areItemsSound p (limitIn b p) (todayIn b p) (lastIn b p)) allProducts ⌝ }
 {
     let limits = b.limits;
     let todays = b.today;
@@ -100,7 +101,7 @@ fn are_products_sound(b: Book) -> bool
 }
 
 fn are_windows_sound(w: Windows) -> bool
-    ensures { λ r. ⌜ r ≡ every (isWindowSound w) eight ⌝ }
+    ensures { λ r. ⌜ r ≡ every (isWindowSound w) allProducts ⌝ }
 {
     let all = w.settlements;
     let sizes = w.sizes;
@@ -130,7 +131,7 @@ fn is_mark_sound(s: Standing) -> bool
 }
 
 fn are_marks_sound(standings: [Standing; GROUP_COUNT]) -> bool
-    ensures { λ r. ⌜ r ≡ every (λ g. isMarkSound (getD standings g noStanding)) six ⌝ }
+    ensures { λ r. ⌜ r ≡ every (λ g. isMarkSound (getD standings g noStanding)) allGroups ⌝ }
 {
     for g in 0..GROUP_COUNT {
         let s = standings[g];

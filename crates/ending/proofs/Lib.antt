@@ -7,7 +7,6 @@ pub mod Products
 pub mod Searched
 pub mod Months
 pub mod Founds
-pub mod SixGroups
 pub mod Outstanding
 pub mod Replaced
 pub mod AfterEnd

@@ -15,7 +15,7 @@ use Rattle.record.specs.State.{settlementOn}
 use Rattle.sheets.specs.declared.Sheet.{Sheet}
 use Rattle.sheets.specs.Sheets.{contractsOf}
 use Rattle.book.specs.Book.{noSheet}
-use Rattle.ending.specs.Lead.{productsFrom}
+use Rattle.book.specs.Numbers.{numbersFrom}
 use Rattle.ending.specs.Search.{sooner, nextIn}
 use Rattle.ending.proofs.Products.{products-end}
 
@@ -87,17 +87,17 @@ module _ (ss : List Sheet) where
 
   -- a month on the sheet of one of the products is not nearer than the next month
   pub next-under : (a r n lo k p : ℕ) → lo ≤ p → p < lo + k → isSome (settlementOn (sheetAt p) n) ≡ true
-      → Under a (nextOf ss a r (productsFrom lo k)) n
+      → Under a (nextOf ss a r (numbersFrom lo k)) n
   next-under a r n lo zero p h l e = absurd (omega arith)
   next-under a r n lo (suc k) p h l e =
       go (next-under a (nextIn a r (sheetAt lo)) n (suc lo) k p)
     where
       go : (suc lo ≤ p → p < suc lo + k → isSome (settlementOn (sheetAt p) n) ≡ true
-          → Under a (nextOf ss a (nextIn a r (sheetAt lo)) (productsFrom (suc lo) k)) n)
-          → Under a (nextOf ss a (nextIn a r (sheetAt lo)) (productsFrom (suc lo) k)) n
+          → Under a (nextOf ss a (nextIn a r (sheetAt lo)) (numbersFrom (suc lo) k)) n)
+          → Under a (nextOf ss a (nextIn a r (sheetAt lo)) (numbersFrom (suc lo) k)) n
       go later =
           ⊎-elim
-          (λ same. of-keep a (nextIn a r (sheetAt lo)) n (productsFrom (suc lo) k) (in-all a r n (sheetAt lo) (rw same e)))
+          (λ same. of-keep a (nextIn a r (sheetAt lo)) n (numbersFrom (suc lo) k) (in-all a r n (sheetAt lo) (rw same e)))
           (λ above. later above (omega arith) e)
           (eq-or-lt-of-le h)
 
@@ -107,5 +107,5 @@ module _ (ss : List Sheet) where
   next-after a r (p ∷ ps) u = next-after a (nextIn a r (sheetAt p)) ps (in-after a r (sheetAt p) u)
 
   -- where a loop over the products of a group is through, its month is the next
-  pub next-all : (a r p hi : ℕ) (group : List ℕ) → hi ≤ p → nextOf ss a 0 group ≡ nextOf ss a r (productsFrom p (hi - p)) → r ≡ nextOf ss a 0 group
+  pub next-all : (a r p hi : ℕ) (group : List ℕ) → hi ≤ p → nextOf ss a 0 group ≡ nextOf ss a r (numbersFrom p (hi - p)) → r ≡ nextOf ss a 0 group
   next-all a r p hi group h e = sym (e ∙ ap (nextOf ss a r) (products-end p hi h))

@@ -12,7 +12,7 @@ use Rattle.record.specs.Record.{end, isOutstanding, tests}
 use Rattle.sheets.specs.Sheets.{sheetIn}
 use Rattle.book.specs.declared.Book.{Book}
 use Rattle.book.specs.Book.{todayIn, viewProduct, viewGroups, viewCommon, view}
-use Rattle.book.specs.Soundness.{eight}
+use Rattle.book.specs.Numbers.{allProducts}
 use Rattle.book.proofs.Shown.{flat}
 use Rattle.record.proofs.Cleared.{Clear}
 
@@ -36,7 +36,7 @@ group-outstanding : (g : Group) → isOutstanding g ≡ not (areIn g)
 unfolding isOutstanding
 group-outstanding g = one-not isIn (λ (q : Product). not (isSome (q .today))) (λ q. refl) (g .products)
 
-outstanding-is : (b : Book) → any isOutstanding (view b .groups) ≡ not (every (λ p. isSome (sheetIn (todayIn b p))) eight)
+outstanding-is : (b : Book) → any isOutstanding (view b .groups) ≡ not (every (λ p. isSome (sheetIn (todayIn b p))) allProducts)
 unfolding view viewProduct
 outstanding-is b =
     one-not areIn isOutstanding group-outstanding (viewGroups b 0 groupTable) ∙ ap not (flat b isIn)
@@ -44,7 +44,7 @@ outstanding-is b =
 -- the tests after soundness
 pub end-tests : (b : Book)
     → first (tests (view b) end)
-    ≡ cond (not (b .«is_open»)) (some wrongPhase) (cond (not (every (λ p. isSome (sheetIn (todayIn b p))) eight)) (some sheetOutstanding) none)
+    ≡ cond (not (b .«is_open»)) (some wrongPhase) (cond (not (every (λ p. isSome (sheetIn (todayIn b p))) allProducts)) (some sheetOutstanding) none)
 unfolding tests view viewCommon
 end-tests b =
     ap (λ (x : Bool). cond (not (b .«is_open»)) (some wrongPhase) (cond x (some sheetOutstanding) none)) (outstanding-is b)

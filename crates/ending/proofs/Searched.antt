@@ -20,10 +20,11 @@ use Rattle.record.specs.End.{Move, productMoves, leading}
 use Rattle.sheets.specs.Sheets.{contractsOf}
 use Rattle.book.specs.declared.Book.{Book}
 use Rattle.book.specs.Book.{limitIn, todayIn, lastIn, viewProduct}
+use Rattle.book.specs.Numbers.{numbersFrom}
 use Rattle.ending.specs.declared.lead.Condition.{Condition}
 use Rattle.book.proofs.SheetsIn.{sheet-contracts}
-use Rattle.ending.specs.Lead.{meets, productsFrom, movesOf, Readable}
 use Rattle.ending.specs.Search.{countEarlier, changeMeets, meetsOn}
+use Rattle.ending.specs.Lead.{meets, movesOf, Readable}
 use Rattle.ending.proofs.Nexts.{Under, nextOf, next-under}
 use Rattle.ending.proofs.Members.{Member, member-any, any-member, member-left, member-right, member-either}
 use Rattle.ending.proofs.Leads.{leadBy, Behind, none-lead, one-leads}
@@ -39,7 +40,7 @@ lt-or-ge a b = go (ltb a b) refl
 -- the moves of products that stand together
 module _ (moves : Product → List Move) (q : ℕ → Product) (v : Move) where
   abbrev together : ℕ → ℕ → List Move
-  together lo k = concatMap moves (map q (productsFrom lo k))
+  together lo k = concatMap moves (map q (numbersFrom lo k))
 
   one-of : (P : Type 0) (lo k : ℕ) → Member v (together lo k) → ((p : ℕ) → lo ≤ p → p < lo + k → Member v (moves (q p)) → P) → P
   one-of P lo zero d found = absurd d
@@ -87,7 +88,7 @@ module _ (b : Book) (date : TradeDate) (condition : Condition) where
     g = meets condition
 
     abbrev group : List ℕ
-    group = productsFrom lo (hi - lo)
+    group = numbersFrom lo (hi - lo)
 
     -- the moves of product p
     abbrev movesBy : ℕ → List Move

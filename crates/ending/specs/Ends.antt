@@ -11,11 +11,11 @@ use Rattle.grain.specs.declared.spot.TradeDate.{TradeDate}
 use Rattle.record.specs.declared.Event.{Event}
 use Rattle.record.specs.declared.Event.the-variants.{Quiet}
 use Rattle.record.specs.End.{levelAfter, markAfter, eventOf, isRaised, isAtExpanded}
-use Rattle.record.specs.State.{groupCount, groupOf, sheetOr}
 use Rattle.record.specs.Window.{windowAfter}
 use Rattle.record.specs.Sound.{isExpanded}
 use Rattle.record.specs.History.{productsOf}
 use Rattle.record.specs.Record.{end, Answer, ended, refusal}
+use Rattle.record.specs.State.{groupCount, groupOf, sheetOr}
 use Rattle.sheets.specs.Sheets.{sheetIn}
 use Rattle.windows.specs.Windows.{windowOf}
 use Rattle.book.specs.declared.Limit.{Limit}
@@ -38,13 +38,13 @@ eventsOf es = map (λ (e : GroupEvent). e .event) es
 abbrev pub endedAs : Ended → Answer
 endedAs r = answerAs (r .refusal) (ended (eventsOf (r .events)))
 
--- a refused end says quiet for all six, and returns the very book
+-- a refused end says quiet for every group, and returns the very book
 abbrev pub refusedBy : Book → ℕ → Ended
 refusedBy b n = record { refusal = n; events = replicate groupCount quiet; book = b }
 
 pub record Ends (b : Book) (r : Ended) : Type 0 where
   pub responds : Responds b end (endedAs r) (r .book)
-  -- a refused end says quiet for all six
+  -- a refused end says quiet for every group
   pub silent : (n : ℕ) → refusal (view b) end ≡ some n → r .events ≡ replicate groupCount quiet
 
 -- the event of a group of a book

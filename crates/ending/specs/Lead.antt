@@ -1,15 +1,17 @@
 -- The leading contract of a group's products, for the condition of an event.
-use Prim.Native.Nat.{ℕ, zero, suc, _<_, _≤_}
 use mathlib.Core.Path.{_≡_}
 use mathlib.Core.Bool.{Bool, true}
-use mathlib.Core.List.{List, [], _∷_, map}
 use mathlib.Core.Option.{Option, some, none}
+use Prim.Native.Nat.{ℕ, _<_, _≤_}
+use mathlib.Core.List.{List, map}
 use Rattle.grain.specs.Lists.{isAscending}
 use Rattle.grain.specs.declared.spot.TradeDate.{TradeDate}
 use Rattle.grain.specs.Spot.{isSpot}
+use Rattle.grain.specs.Products.{productCount}
 use Rattle.record.specs.declared.Lead.{Lead}
 use Rattle.record.specs.Choices.{concatMap}
 use Rattle.record.specs.End.{Move, productMoves, isTrigger, isHolding, isAtExpanded}
+use Rattle.record.specs.State.{maxContracts}
 use Rattle.sheets.specs.Sheets.{contractsOf, monthsOf}
 use Rattle.book.specs.declared.Book.{Book}
 use Rattle.book.specs.Book.{todayIn, lastIn, viewProduct}
@@ -17,8 +19,6 @@ use Rattle.ending.specs.declared.lead.Condition.{Condition}
 use Rattle.ending.specs.declared.lead.Condition.the-variants.{Trigger, Holding, AtExpanded}
 use Rattle.ending.specs.declared.lead.Found.{Found}
 use Rattle.ending.specs.declared.lead.Found.the-variants.{At, Nobody}
-use Rattle.grain.specs.Products.{productCount}
-use Rattle.record.specs.State.{maxContracts}
 
 abbrev pub meets : Condition → Move → Bool
 meets Trigger m = isTrigger m
@@ -29,11 +29,6 @@ meets AtExpanded m = isAtExpanded m
 abbrev pub foundAs : Option Lead → Found
 foundAs none = Nobody
 foundAs (some l) = At l
-
--- n products from number p on: the products of a group stand together
-abbrev pub productsFrom : ℕ → ℕ → List ℕ
-productsFrom p zero = []
-productsFrom p (suc n) = p ∷ productsFrom (suc p) n
 
 -- the moves of some products of a book
 unfoldable pub movesOf : Book → TradeDate → List ℕ → List Move

@@ -2,15 +2,15 @@
 ghost use mathlib.Core.Path.{_≡_};
 ghost use mathlib.Core.Bool.{true};
 ghost use Prim.Native.Nat.{ℕ, _<_, _≤_};
-ghost use Rattle.record.specs.State.{maxContracts, monthOf, tradeDate};
+ghost use Rattle.grain.specs.Products.{productCount};
+ghost use Rattle.grain.specs.Amounts.{windowLength};
 ghost use Rattle.record.specs.Opening.{isTrueDay};
 ghost use Rattle.record.specs.Window.{upToMiddleOf, newCropMonth, collectedMonth, windowBy};
+ghost use Rattle.record.specs.State.{maxContracts, monthOf, tradeDate};
 ghost use Rattle.sheets.specs.Sheets.{entriesOf};
 ghost use Rattle.windows.specs.Windows.{sizeOf, windowOf, Changed};
 ghost use Rattle.book.specs.Book.{todayIn};
 ghost use Rattle.ending.specs.Ends.{collectingAs, monthIn, windowOfEnd};
-ghost use Rattle.grain.specs.Products.{productCount};
-ghost use Rattle.grain.specs.Amounts.{windowLength};
 use book::Book;
 use grain::PRODUCT_COUNT;
 use grain::TradeDate;

@@ -3,12 +3,12 @@ ghost use mathlib.Core.Path.{_≡_};
 ghost use mathlib.Core.List.{map};
 ghost use Prim.Native.Nat.{_<_};
 ghost use Rattle.record.specs.Choices.{keep};
-ghost use Rattle.record.specs.State.{groupCount, initial, expanded};
 ghost use Rattle.record.specs.End.{leading, ledBy, isHolding, eventOf};
 ghost use Rattle.record.specs.declared.Event.the-variants.{Held, Reverted};
 ghost use Rattle.record.specs.History.{productsOf};
+ghost use Rattle.record.specs.State.{groupCount, initial, expanded};
 ghost use Rattle.book.specs.Book.{standingIn};
-ghost use Rattle.book.specs.Soundness.{six};
+ghost use Rattle.book.specs.Numbers.{allGroups};
 ghost use Rattle.ending.specs.Lead.{meets, foundAs, movesOf, Readable};
 ghost use Rattle.ending.specs.Ends.{eventIn, eventsOf};
 use crate::lead::Condition;
@@ -20,16 +20,13 @@ use record::Event;
 use record::GROUP_COUNT;
 use record::GroupEvent;
 
-// The products of a group stand together: from FIRSTS[g], up to ENDS[g] and not with it.
-const FIRSTS: [usize; 6] = [0, 1, 4, 5, 6, 7];
-
-const ENDS: [usize; 6] = [1, 4, 5, 6, 7, 8];
-
 pub(crate) fn leading_in(b: Book, date: TradeDate, condition: Condition, g: usize) -> Found
     requires { ⌜ (g < groupCount) × Readable b ⌝ }
     ensures { λ r. ⌜ r ≡ foundAs (leading (keep (meets condition) (movesOf b date (productsOf g)))) ⌝ }
 {
-    leading(b, date, condition, FIRSTS[g], ENDS[g])
+    let first = book::products_before(g);
+    let past = book::products_before(g + 1);
+    leading(b, date, condition, first, past)
 }
 
 fn initial_event(b: Book, date: TradeDate, g: usize) -> Event
@@ -80,7 +77,7 @@ fn event_of(b: Book, date: TradeDate, g: usize) -> Event
 
 pub(crate) fn events_of(b: Book, date: TradeDate) -> [GroupEvent; GROUP_COUNT]
     requires { ⌜ Readable b ⌝ }
-    ensures { λ r. ⌜ eventsOf r ≡ map (eventIn b date) six ⌝ }
+    ensures { λ r. ⌜ eventsOf r ≡ map (eventIn b date) allGroups ⌝ }
 {
     let mut events = [GroupEvent {
         event: Event::Quiet,

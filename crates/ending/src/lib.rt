@@ -38,7 +38,7 @@ pub struct Ended {
     pub book: Book,
 }
 
-// A refused end says quiet for all six groups.
+// A refused end says quiet for every group.
 fn refused(b: Book, refusal: u32) -> Ended
     ensures { λ r. ⌜ r ≡ refusedBy b refusal ⌝ }
 {

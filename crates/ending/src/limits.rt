@@ -2,10 +2,10 @@
 ghost use mathlib.Core.Path.{_≡_};
 ghost use Prim.Native.Nat.{ℕ, _<_};
 ghost use lib.ListN.{getD};
+ghost use Rattle.grain.specs.Products.{productCount};
 ghost use Rattle.record.specs.End.{isRaised};
 ghost use Rattle.book.specs.Book.{noLimit};
 ghost use Rattle.ending.specs.Ends.{limitAfter, limitOfEnd};
-ghost use Rattle.grain.specs.Products.{productCount};
 use book::Limit;
 use grain::PRODUCT_COUNT;
 use record::Event;

@@ -9,16 +9,16 @@ use Rattle.grain.specs.Check.{spanIn}
 use Rattle.grain.specs.Bare.{verdictNumber, noSpan, spanOr}
 use Rattle.grain.specs.Refusals.{unfitAmount}
 use Rattle.grain.specs.declared.check.Span.{Span}
+use Rattle.grain.specs.Products.{productCount}
 use Rattle.record.specs.Founding.{Start, isFitStart, founded}
 use Rattle.record.specs.Record.{Call, check, Answer, refused, opened, filed, ended, checked, refusal, respond}
+use Rattle.record.specs.State.{groupCount}
 use Rattle.book.specs.Book.{view}
 use Rattle.image.specs.Places.{eventWords}
 use Rattle.image.specs.Words.{flat}
 use Rattle.image.specs.Image.{flagWord, bookIn}
 use Rattle.image.specs.Answers.{wordsOfEvent, renewedIn, eventsIn}
 use Rattle.gateway.specs.declared.spans.Spanned.{Spanned}
-use Rattle.grain.specs.Products.{productCount}
-use Rattle.record.specs.State.{groupCount}
 
 -- the number that a call returns: 0 where it is accepted, and a check's verdict
 abbrev pub answerNumber : Answer → ℕ

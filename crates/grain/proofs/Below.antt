@@ -32,3 +32,13 @@ pub by-cases : (C : Type 0) (k n : ℕ) → k < n → Cases C k n
 by-cases C k zero l = absurd (not-suc-le-zero l)
 by-cases C k (suc n) l =
     λ f. ⊎-elim (λ (h : k ≡ n). whichever C k n (f h)) (λ (h : k < n). by-cases C k n h) (eq-or-lt-of-le (le-of-suc-le-suc l))
+
+-- P of every number below n: `search` finds it where P computes at each of them, however many they are
+abbrev pub Each : (ℕ → Type 0) → ℕ → Type 0
+Each P zero = Unit {0}
+Each P (suc n) = P n × Each P n
+
+pub each : (P : ℕ → Type 0) (n : ℕ) → Each P n → (k : ℕ) → k < n → P k
+each P zero e k l = absurd (not-suc-le-zero l)
+each P (suc n) e k l =
+    ⊎-elim (λ (h : k ≡ n). subst⁻¹ P h (e .0)) (λ (h : k < n). each P n (e .1) k h) (eq-or-lt-of-le (le-of-suc-le-suc l))

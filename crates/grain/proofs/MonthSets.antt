@@ -8,6 +8,7 @@ use lib.ListN.{getD, List·getD-eq-default}
 use Rattle.grain.specs.Lists.{isIn}
 use Rattle.grain.specs.Products.{grainMonths, soybeanMonths, oilAndMealMonths, riceMonths, monthsTraded, isTraded}
 use Rattle.grain.proofs.Below.{below, allBelow}
+use Rattle.grain.proofs.Tests.{beq-same}
 
 abbrev pub sets : List ℕ
 sets = 2388 ∷ 1493 ∷ 3029 ∷ 3029 ∷ 2388 ∷ 2388 ∷ 2388 ∷ 1365 ∷ []
@@ -15,12 +16,6 @@ sets = 2388 ∷ 1493 ∷ 3029 ∷ 3029 ∷ 2388 ∷ 2388 ∷ 2388 ∷ 1365 ∷ [
 -- the code's test of month k, January being 0
 abbrev pub hasBit : ℕ → ℕ → Bool
 hasBit p k = eqb (getD sets p 0 / 2 ^ k % 2) 1
-
-same : (a b : Bool) → Bool·beq a b ≡ true → a ≡ b
-same true true e = refl
-same true false e = let z : _≡_ {A = Bool} false true = e in cc
-same false true e = e
-same false false e = refl
 
 abbrev agrees : ℕ → ℕ → Bool
 agrees p k = Bool·beq (hasBit p k) (isIn (k + 1) (getD monthsTraded p []))
@@ -30,7 +25,7 @@ unfolding grainMonths soybeanMonths oilAndMealMonths riceMonths monthsTraded
 all-agree p l = below 8 (λ p. allBelow 12 (agrees p)) refl p l
 
 pub bit-is-month : (p k : ℕ) → p < 8 → k < 12 → hasBit p k ≡ isIn (k + 1) (getD monthsTraded p [])
-bit-is-month p k l h = same (hasBit p k) _ (below 12 (agrees p) (all-agree p l) k h)
+bit-is-month p k l h = beq-same (hasBit p k) _ (below 12 (agrees p) (all-agree p l) k h)
 
 pub none-traded : (p month : ℕ) → 8 ≤ p → isTraded p month ≡ false
 unfolding isTraded monthsTraded

@@ -1,6 +1,6 @@
--- The two sides of a test that is both, or that is one of two.
+-- The two sides of a test that is both, or that is one of two, or that compares two.
 use mathlib.Core.Path.{_≡_, refl}
-use mathlib.Core.Bool.{Bool, true, false, _&&_, _||_}
+use mathlib.Core.Bool.{Bool, true, false, _&&_, _||_, Bool·beq}
 use Rattle.grain.specs.Lists.{_and_}
 
 pub &&-left : (a b : Bool) → a && b ≡ true → a ≡ true
@@ -33,3 +33,10 @@ both false b s t = s
 pub neither : (a b : Bool) → a || b ≡ false → (a ≡ false) × (b ≡ false)
 neither true b e = (e, cc)
 neither false b e = (refl, e)
+
+-- two tests that are compared
+pub beq-same : (a b : Bool) → Bool·beq a b ≡ true → a ≡ b
+beq-same true true e = refl
+beq-same true false e = let z : _≡_ {A = Bool} false true = e in cc
+beq-same false true e = e
+beq-same false false e = refl

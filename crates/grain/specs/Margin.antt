@@ -7,7 +7,6 @@ use lib.ListN.{length}
 use Rattle.grain.specs.Lists.{every}
 use Rattle.grain.specs.Products.{isProduct}
 use Rattle.grain.specs.Prices.{isSettlement}
-use Rattle.grain.specs.Amounts.{windowLength, expandedOf, seasonOf, isFitAmount}
 use Rattle.grain.specs.Dates.{isDate, contractMonth, seasonNumber, daysRemaining}
 use Rattle.grain.specs.Refusals.{noSuchDate, noSuchProduct, misshapen, badPrice, unfitAmount}
 use Rattle.grain.specs.declared.margin.ExpandedLimit.{ExpandedLimit}
@@ -18,6 +17,7 @@ use Rattle.grain.specs.declared.margin.SeasonLimits.the-variants.{Are, N
 use Rattle.grain.specs.declared.margin.SeasonLimits.the-variants as S
 use Rattle.grain.specs.declared.margin.DateFacts.{DateFacts}
 use Rattle.grain.specs.declared.margin.DateFacts.the-variants.{On, NoSuchDate}
+use Rattle.grain.specs.Amounts.{windowLength, expandedOf, seasonOf, isFitAmount}
 
 -- what the rule says to a question: a refusal's number, or the values asked for
 pub data Outcome : Type 0 where

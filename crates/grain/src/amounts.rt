@@ -1,8 +1,8 @@
 // Amounts: the expanded limit E of an initial limit I, the season limit, and which amounts are fit.
 ghost use mathlib.Core.Path.{_≡_};
 ghost use Prim.Native.Nat.{_+_, _*_, _/_, _<_, _≤_, _^_};
-ghost use Rattle.grain.specs.Products.{productCount, stepOf, floorOf};
 ghost use Rattle.grain.specs.Amounts.{expandedOf, seasonBy, isFit, isFitAmount, isFitFounding};
+ghost use Rattle.grain.specs.Products.{productCount, stepOf, floorOf};
 use crate::products::PRODUCTS;
 use crate::products::floor;
 use crate::products::step;

@@ -14,9 +14,9 @@ use Rattle.record.specs.Record.{Call, check, Answer, checked, respond}
 use Rattle.record.specs.History.{SameFor}
 use Rattle.record.specs.Theorems.{after, historyOf, OneLevel, BetweenLimits, Resent}
 use Rattle.record.proofs.Proved.{theorems}
+use Rattle.record.proofs.GroupTable.{group-small}
 use Rattle.book.specs.declared.Book.{Book}
 use Rattle.book.specs.Book.{viewProduct, viewGroup, viewCommon, view}
-use Rattle.book.proofs.Groups.{group-small}
 use Rattle.book.proofs.Views.{group-is, product-is}
 use Rattle.history.specs.Whole.{SameProduct, SameContents}
 

@@ -1,7 +1,6 @@
 pub mod TrueDays
 pub mod Refused
 pub mod FullWindows
-pub mod FilledEight
 pub mod Starts
 pub mod Renewals
 pub mod SeasonStarts

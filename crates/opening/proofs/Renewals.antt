@@ -4,17 +4,18 @@ use mathlib.Core.Path.{_≡_, refl, sym, _∙_, ap}
 use mathlib.Core.Bool.{Bool, true, false, cond}
 use mathlib.Core.List.{[], map}
 use Rattle.grain.specs.Lists.{any}
+use Rattle.grain.specs.Products.{productCount}
 use Rattle.grain.proofs.Every.{any-mapped}
 use Rattle.record.specs.declared.Day.{Day}
-use Rattle.record.specs.State.{initial, groupTable}
 use Rattle.record.specs.Opening.{isTrueDay, isNextSeason, isOtherSeason, isRenewed, openProduct, hasNewLimits, openGroup}
 use Rattle.record.specs.History.{productsOf}
 use Rattle.record.specs.Record.{opening, opened, answer, next, nextCommon, nextGroup}
+use Rattle.record.specs.State.{groupCount, initial, groupTable}
 use Rattle.windows.specs.Windows.{windowOf}
 use Rattle.book.specs.declared.Book.{Book}
 use Rattle.book.specs.declared.Standing.{Standing}
 use Rattle.book.specs.Book.{limitIn, standingIn, levelOf, openedOf, viewProduct, viewGroup, viewCommon, view}
-use Rattle.book.specs.Soundness.{eight}
+use Rattle.book.specs.Numbers.{allProducts}
 use Rattle.book.proofs.Views.{group-view, next-view}
 use Rattle.opening.specs.Opens.{isRenewedBy, limitOn, standingOn}
 use Rattle.opening.proofs.TrueDays.{opened-is}
@@ -25,10 +26,10 @@ renewedOn b d p = isRenewedBy (isNextSeason (openedOf (b .day)) d) (windowOf (b 
 
 -- the parts of the book after it
 pub record OpenedOn (b : Book) (d : Day) (z : Book) : Type 0 where
-  pub limits : (p : ℕ) → p < 8
+  pub limits : (p : ℕ) → p < productCount
       → limitIn z p ≡ limitOn (isNextSeason (openedOf (b .day)) d) (windowOf (b .windows) p) p (limitIn b p)
   pub windows : (p : ℕ) → windowOf (z .windows) p ≡ cond (isOtherSeason (openedOf (b .day)) d) [] (windowOf (b .windows) p)
-  pub standings : (g : ℕ) → g < 6 → standingIn z g ≡ standingOn (any (renewedOn b d) (productsOf g)) (standingIn b g)
+  pub standings : (g : ℕ) → g < groupCount → standingIn z g ≡ standingOn (any (renewedOn b d) (productsOf g)) (standingIn b g)
   pub today : z .today ≡ b .today
   pub last : z .last ≡ b .last
   pub day : z .day ≡ d
@@ -50,7 +51,7 @@ mark-on true s = refl
 mark-on false s = refl
 
 module _ (b : Book) (d : Day) (z : Book) (on : OpenedOn b d z) where
-  product-opened : (p : ℕ) → p < 8 → viewProduct z p ≡ openProduct (viewCommon b) d (viewProduct b p)
+  product-opened : (p : ℕ) → p < productCount → viewProduct z p ≡ openProduct (viewCommon b) d (viewProduct b p)
   unfolding viewProduct viewCommon openProduct isRenewed
   product-opened p l = go (renewedOn b d p) refl
     where
@@ -58,7 +59,7 @@ module _ (b : Book) (d : Day) (z : Book) (on : OpenedOn b d z) where
       go true e = rw (on .limits p l, on .windows p, on .today, on .last, e)
       go false e = rw (on .limits p l, on .windows p, on .today, on .last, e)
 
-  group-opened : (g : ℕ) → g < 6
+  group-opened : (g : ℕ) → g < groupCount
       → viewGroup z g (productsOf g) ≡ nextGroup (viewCommon b) (opening d) (viewGroup b g (productsOf g))
   unfolding viewGroup nextGroup openGroup
   group-opened g l =
@@ -73,7 +74,7 @@ module _ (b : Book) (d : Day) (z : Book) (on : OpenedOn b d z) where
   pub opened-view : isTrueDay d ≡ true → view z ≡ next (view b) (opening d)
   opened-view t = next-view b z (opening d) (common-opened t) group-opened
 
--- the eight answers, product by product
-pub renewed-answer : (b : Book) (d : Day) → opened (map (renewedOn b d) eight) ≡ answer (view b) (opening d)
+-- the answers, product by product
+pub renewed-answer : (b : Book) (d : Day) → opened (map (renewedOn b d) allProducts) ≡ answer (view b) (opening d)
 unfolding answer view viewCommon viewGroup viewProduct groupTable isRenewed
 renewed-answer b d = refl

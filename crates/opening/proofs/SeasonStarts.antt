@@ -6,15 +6,17 @@ use mathlib.Core.List.{List, map}
 use mathlib.Core.Option.{Option, some, none}
 use lib.Dec.{eqb}
 use lib.ListN.{replicate, List·getD-map}
+use Rattle.grain.specs.Products.{productCount}
+use Rattle.grain.proofs.Below.{each}
 use Rattle.record.specs.declared.Day.{Day}
-use Rattle.record.specs.State.{initial, Record, noGroup, groupTable, groupAt}
 use Rattle.record.specs.Opening.{hasNewLimits, openGroup}
 use Rattle.record.specs.History.{productsOf}
 use Rattle.record.specs.Record.{opening, refused, opened, refusal, next, nextGroup, respond}
+use Rattle.record.specs.State.{initial, Record, noGroup, groupTable, groupCount, groupAt}
 use Rattle.book.specs.declared.Book.{Book}
 use Rattle.book.specs.Book.{viewCommon, view}
-use Rattle.book.specs.Soundness.{eight}
-use Rattle.book.proofs.Views.{each-group, group-is}
+use Rattle.book.specs.Numbers.{allProducts}
+use Rattle.book.proofs.Views.{group-is}
 use Rattle.opening.specs.declared.Opened.{Opened}
 use Rattle.opening.specs.Opens.{isOneRenewed, Opens}
 use Rattle.opening.specs.SeasonStart.{SeasonStart}
@@ -26,17 +28,17 @@ group-next : (r : Record) (d : Day) (g : ℕ) → groupAt (next r (opening d)) g
 unfolding next nextGroup openGroup hasNewLimits
 group-next r d g = List·getD-map (openGroup (r .common) d) (r .groups) g noGroup
 
--- eight times no is no for every group
-all-no : (g : ℕ) → g < 6 → isOneRenewed (replicate 8 false) (productsOf g) ≡ false
+-- no for every product is no for every group
+all-no : (g : ℕ) → g < groupCount → isOneRenewed (replicate productCount false) (productsOf g) ≡ false
 unfolding groupTable
-all-no = each-group _ refl refl refl refl refl refl
+all-no = each (λ g. isOneRenewed (replicate productCount false) (productsOf g) ≡ false) groupCount search
 
 -- the number is 0 where the answer is no refusal
 answers-are : (x : Bool) (n : ℕ) (l m : List Bool) → cond x (opened l) (refused n) ≡ opened m → l ≡ m
 answers-are true n l m e = cc
 answers-are false n l m e = cc
 
-module _ (b : Book) (d : Day) (r : Opened) (opens : Opens b d r) (g : ℕ) (l : g < 6) where
+module _ (b : Book) (d : Day) (r : Opened) (opens : Opens b d r) (g : ℕ) (l : g < groupCount) where
   -- as the Record says it, with the answers in place of the windows
   abbrev Started : Type 0
   Started =
@@ -55,7 +57,7 @@ module _ (b : Book) (d : Day) (r : Opened) (opens : Opens b d r) (g : ℕ) (l : 
           let same = opens .responds .unchanged n e in
           (rw (no, same), rw (no, same))
       go none e =
-          let renewed : r .renewed ≡ map (renewedOn b d) eight =
+          let renewed : r .renewed ≡ map (renewedOn b d) allProducts =
           answers-are (eqb (r .refusal) 0) (r .refusal) _ _ (rw e at (opens .responds .answer) ∙ sym (renewed-answer b d)) in
           let after : groupAt (view (r .book)) g ≡ openGroup (viewCommon b) d (groupAt (view b) g) =
           ap (λ (t : Record). groupAt t g) (rw e at (opens .responds .state)) ∙ group-next (view b) d g in

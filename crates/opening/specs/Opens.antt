@@ -8,6 +8,7 @@ use lib.Dec.{eqb}
 use lib.ListN.{length, getD, replicate}
 use Rattle.grain.specs.Lists.{any}
 use Rattle.grain.specs.Amounts.{windowLength, expandedOf, seasonOf}
+use Rattle.grain.specs.Products.{productCount}
 use Rattle.record.specs.declared.Day.{Day}
 use Rattle.record.specs.Opening.{isTrueDay}
 use Rattle.record.specs.Record.{opening, Answer, opened, refusal}
@@ -17,7 +18,6 @@ use Rattle.book.specs.declared.Book.{Book}
 use Rattle.book.specs.Book.{isNoDay, view}
 use Rattle.book.specs.Calls.{Responds, answerAs}
 use Rattle.opening.specs.declared.Opened.{Opened}
-use Rattle.grain.specs.Products.{productCount}
 
 abbrev pub dayOn : ℕ → ℕ → ℕ → ℕ → Day
 dayOn year month day left = record { year = year; month = month; day = day; left = left }
@@ -27,7 +27,7 @@ openedAs r = answerAs (r .refusal) (opened (r .renewed))
 
 pub record Opens (b : Book) (d : Day) (r : Opened) : Type 0 where
   pub responds : Responds b (opening d) (openedAs r) (r .book)
-  -- a refused opening says no for all eight
+  -- a refused opening says no for every product
   pub silent : (n : ℕ) → refusal (view b) (opening d) ≡ some n → r .renewed ≡ replicate productCount false
 
 -- four zeros, or a date with its left
@@ -44,7 +44,7 @@ limitOn renews window p limit =
     (record { initial = seasonOf p window; expanded = expandedOf p (seasonOf p window) })
     limit
 
--- the answers for the eight products say yes for one of these
+-- the answers for all products say yes for one of these
 abbrev pub isOneRenewed : List Bool → List ℕ → Bool
 isOneRenewed renewed ps = any (λ p. getD renewed p false) ps
 

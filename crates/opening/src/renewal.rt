@@ -6,11 +6,11 @@ ghost use Prim.Native.Nat.{ℕ, _<_};
 ghost use lib.ListN.{getD};
 ghost use Rattle.grain.specs.Lists.{every};
 ghost use Rattle.grain.specs.Prices.{isSettlement};
+ghost use Rattle.grain.specs.Products.{productCount};
 ghost use Rattle.windows.specs.Windows.{windowOf};
 ghost use Rattle.book.specs.Book.{noLimit, limitIn};
-ghost use Rattle.book.specs.Soundness.{eight};
+ghost use Rattle.book.specs.Numbers.{allProducts};
 ghost use Rattle.opening.specs.Opens.{isRenewedBy, limitOn};
-ghost use Rattle.grain.specs.Products.{productCount};
 use book::Book;
 use book::Limit;
 use grain::PRODUCT_COUNT;
@@ -28,7 +28,7 @@ fn is_renewed(renews: bool, w: Windows, p: usize) -> bool
 
 // For each product, whether it gets its season limits.
 pub(crate) fn renewed_on(renews: bool, w: Windows) -> [bool; PRODUCT_COUNT]
-    ensures { λ r. ⌜ r ≡ map (λ p. isRenewedBy renews (windowOf w p)) eight ⌝ }
+    ensures { λ r. ⌜ r ≡ map (λ p. isRenewedBy renews (windowOf w p)) allProducts ⌝ }
 {
     let mut renewed = [false; PRODUCT_COUNT];
     for p in 0..PRODUCT_COUNT {

@@ -1,6 +1,7 @@
 pub mod Maps
 pub mod Checks
 pub mod TrueDays
+pub mod GroupTable
 pub mod CheckTerms
 pub mod Cleared
 pub mod Kept

@@ -7,8 +7,8 @@ use lib.Dec.{eqb}
 use lib.ListN.{length, getD}
 use Rattle.grain.specs.Lists.{_and_, every}
 use Rattle.grain.specs.Amounts.{expandedOf, isFitFounding}
-use Rattle.record.specs.State.{initial, Product, Group, Record, groupTable}
 use Rattle.grain.specs.Products.{productCount}
+use Rattle.record.specs.State.{initial, Product, Group, Record, groupTable}
 
 -- What a book is founded on.
 pub record Start : Type 0 where

@@ -6,8 +6,8 @@ use mathlib.Core.Option.{Option, some, none}
 use lib.Dec.{leb, ltb, eqb}
 use lib.ListN.{length, drop}
 use Rattle.grain.specs.Dates.{contractMonth}
-use Rattle.record.specs.State.{Day, Sheet, settlementOn}
 use Rattle.grain.specs.Amounts.{windowLength}
+use Rattle.record.specs.State.{Day, Sheet, settlementOn}
 
 -- the date is before the month, or in its first 15 days
 abbrev pub upToMiddleOf : ℕ → Day → Bool

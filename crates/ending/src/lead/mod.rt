@@ -1,10 +1,11 @@
 // The leading contract of a group: of those that meet an event's condition, the nearest month, then the lowest product number.
 ghost use mathlib.Core.Path.{_≡_};
 ghost use Prim.Native.Nat.{_≤_, _-_};
+ghost use Rattle.grain.specs.Products.{productCount};
 ghost use Rattle.record.specs.Choices.{keep};
 ghost use Rattle.record.specs.End.{leading as leadOf};
-ghost use Rattle.ending.specs.Lead.{meets, foundAs, productsFrom, movesOf, Readable};
-ghost use Rattle.grain.specs.Products.{productCount};
+ghost use Rattle.book.specs.Numbers.{numbersFrom};
+ghost use Rattle.ending.specs.Lead.{meets, foundAs, movesOf, Readable};
 use book::Book;
 use grain::TradeDate;
 use months::next_in;
@@ -32,7 +33,7 @@ pub enum Found {
 // The leading contract of products lo to hi, hi not among them.
 pub(crate) fn leading(b: Book, date: TradeDate, condition: Condition, lo: usize, hi: usize) -> Found
     requires { ⌜ (lo ≤ hi) × (hi ≤ productCount) × Readable b ⌝ }
-    ensures { λ r. ⌜ r ≡ foundAs (leadOf (keep (meets condition) (movesOf b date (productsFrom lo (hi - lo))))) ⌝ }
+    ensures { λ r. ⌜ r ≡ foundAs (leadOf (keep (meets condition) (movesOf b date (numbersFrom lo (hi - lo))))) ⌝ }
 {
     // In the date's month every contract is spot: the first turn only finds the next month.
     let mut month = date.month;

@@ -1,9 +1,9 @@
 // The next month that a product has on its sheet.
 ghost use mathlib.Core.Path.{_≡_};
 ghost use Prim.Native.Nat.{_≤_};
+ghost use Rattle.record.specs.State.{maxContracts};
 ghost use Rattle.sheets.specs.Sheets.{contractsOf};
 ghost use Rattle.ending.specs.Search.{sooner, nextIn};
-ghost use Rattle.record.specs.State.{maxContracts};
 use sheets::Sheet;
 
 fn sooner_of(after: u32, best: u32, month: u32) -> u32

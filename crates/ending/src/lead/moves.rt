@@ -2,9 +2,9 @@
 ghost use mathlib.Core.Path.{_≡_};
 ghost use Prim.Native.Nat.{_≤_};
 ghost use Rattle.grain.specs.Spot.{isSpot};
+ghost use Rattle.record.specs.State.{maxContracts};
 ghost use Rattle.sheets.specs.Sheets.{contractsOf};
 ghost use Rattle.ending.specs.Search.{oneIfEarlier, countEarlier, meetsIn};
-ghost use Rattle.record.specs.State.{maxContracts};
 use crate::lead::Condition;
 use book::Limit;
 use grain::TradeDate;

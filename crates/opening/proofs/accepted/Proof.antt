@@ -3,7 +3,7 @@ use mathlib.Core.Path.{_≡_, refl, _∙_}
 use mathlib.Core.Bool.{true}
 use mathlib.Core.List.{map}
 use Rattle.book.specs.declared.Book.{Book}
-use Rattle.book.specs.Soundness.{eight}
+use Rattle.book.specs.Numbers.{allProducts}
 use Rattle.book.proofs.SoundFacts.{window-settlements}
 use Rattle.opening.proofs.Starts.{one-renewed}
 use Rattle.opening.proofs.Renewals.{renewedOn, OpenedOn, opened-view, renewed-answer}
@@ -45,7 +45,7 @@ returns c =
     let s = answered .before .before .before .before .before in
     let b = s .args .b in
     let d = s .args .d in
-    let renewed : answered .renewed-on .result ≡ map (renewedOn b d) eight = rw next at (answered .renewed-on .ensures) in
+    let renewed : answered .renewed-on .result ≡ map (renewedOn b d) allProducts = rw next at (answered .renewed-on .ensures) in
     let z : Book =
     record {
       limits = limited .limits-on .result;

@@ -1,7 +1,8 @@
 use borrow.Author.Needs.{needs}
 use native.Mathlib.Omega.{arith}
 use mathlib.Core.Path.{sym, _∙_}
-use Rattle.book.proofs.Groups.{no-limit, group-small, limit-is}
+use Rattle.record.proofs.GroupTable.{group-small}
+use Rattle.book.proofs.TodaysLimit.{no-limit, limit-is}
 use Rattle.book.proofs.Book.limit_of.Statement.{statement}
 use Rattle.book.proofs.Book.limit_of.Tie as tie
 

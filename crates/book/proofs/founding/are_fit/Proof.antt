@@ -6,18 +6,19 @@ use Prim.Native.Nat.{ℕ, _-_, _≤_}
 use mathlib.Core.Path.{_≡_, sym, _∙_}
 use mathlib.Core.Bool.{Bool, true, false}
 use Rattle.grain.specs.Lists.{every}
-use Rattle.book.specs.Soundness.{eight}
-use Rattle.book.proofs.Numbers.{eight-counts, one-fails, one-goes-on, none-left}
+use Rattle.grain.specs.Products.{productCount}
+use Rattle.book.specs.Numbers.{allProducts}
 use Rattle.book.proofs.Founded.{fit-is}
+use Rattle.book.proofs.Numbers.{one-fails, one-goes-on, none-left}
 use Rattle.book.proofs.founding.are_fit.Statement.{statement}
 use Rattle.book.proofs.founding.are_fit.Tie as tie
 
 abbrev Inv-loop : tie.InvT-loop
 Inv-loop limits p₀ p =
-    (p ≤ 8) × (every (λ p. isFitFounding p (getD limits p 0)) eight ≡ every (λ p. isFitFounding p (getD limits p 0)) (drop p eight))
+    (p ≤ productCount) × (every (λ p. isFitFounding p (getD limits p 0)) allProducts ≡ every (λ p. isFitFounding p (getD limits p 0)) (drop p allProducts))
 
 abbrev μ-loop : tie.MeasureT-loop
-μ-loop limits p₀ p = 8 - p
+μ-loop limits p₀ p = productCount - p
 
 loop-holds : tie.Need-loop-holds Inv-loop μ-loop
 loop-holds c = search needs
@@ -39,7 +40,7 @@ returns c =
     let k = c .before .before .before in
     let test : ℕ → Bool = λ p. isFitFounding p (getD (k .before .args .t1) p 0) in
     let no : test (k .loop .p) ≡ false = sym (c .before .is-fit-founding .ensures) ∙ not-true _ (c .if1 .taken) in
-    sym (fit-is (record { limits = k .before .args .t1 }) (search needs) ∙ one-fails test 8 eight eight-counts (k .loop .p) (search needs) no (k .loop .inv .1))
+    sym (fit-is (record { limits = k .before .args .t1 }) (search needs) ∙ one-fails test productCount (k .loop .p) (search needs) no (k .loop .inv .1))
 
 add-p : tie.Need-add-p Inv-loop μ-loop
 add-p c = search needs
@@ -52,13 +53,13 @@ loop-again c =
     let k = c .before .before .before in
     let test : ℕ → Bool = λ p. isFitFounding p (getD (k .before .args .t1) p 0) in
     let yes : test (k .loop .p) ≡ true = sym (c .before .is-fit-founding .ensures) ∙ not-false _ (c .if1 .left) in
-    (search needs, one-goes-on test 8 eight eight-counts (k .loop .p) (search needs) yes (k .loop .inv .1))
+    (search needs, one-goes-on test productCount (k .loop .p) (search needs) yes (k .loop .inv .1))
 
 returns-2 : tie.Need-returns-2 Inv-loop μ-loop
 returns-2 c =
     let k = c .before in
     let test : ℕ → Bool = λ p. isFitFounding p (getD (k .before .args .t1) p 0) in
-    sym (fit-is (record { limits = k .before .args .t1 }) (search needs) ∙ none-left test 8 eight eight-counts (k .loop .p) (search needs) (k .loop .inv .1))
+    sym (fit-is (record { limits = k .before .args .t1 }) (search needs) ∙ none-left test productCount (k .loop .p) (search needs) (k .loop .inv .1))
 
 pub are-fit-spec : {M : Type 1} → statement M
 are-fit-spec =

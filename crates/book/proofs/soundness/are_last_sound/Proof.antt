@@ -9,14 +9,14 @@ use Rattle.record.specs.declared.Day.{Day}
 use Rattle.sheets.specs.declared.Sheet.{Sheet}
 use Rattle.sheets.specs.Sheets.{sheetIn}
 use Rattle.book.specs.Book.{noSheet, openedOf}
-use Rattle.book.specs.Soundness.{eight}
+use Rattle.book.specs.Numbers.{allProducts}
 use Rattle.book.proofs.Either.{second-holds, second-fails}
 use Rattle.book.proofs.soundness.are_last_sound.Statement.{statement}
 use Rattle.book.proofs.soundness.are_last_sound.Tie as tie
 
 -- the last ended sheets are all there, with a date
 abbrev areThere : Day → List Sheet → Bool
-areThere d last = isSome (openedOf d) and every (λ p. isSome (sheetIn (getD last p noSheet))) eight
+areThere d last = isSome (openedOf d) and every (λ p. isSome (sheetIn (getD last p noSheet))) allProducts
 
 are-all-missing-requires : tie.Need-are-all-missing-requires
 are-all-missing-requires c κs = search needs

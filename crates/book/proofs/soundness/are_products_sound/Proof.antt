@@ -5,16 +5,18 @@ use mathlib.Core.Bool.{Bool, true, false}
 use borrow.Author.Tests.{not-true, not-false}
 use lib.ListN.{getD, drop}
 use Rattle.grain.specs.Lists.{every}
+use Rattle.grain.specs.Products.{productCount}
 use Rattle.book.specs.Book.{noLimit, noSheet, limitIn, todayIn, lastIn}
-use Rattle.book.specs.Soundness.{eight, areItemsSound}
-use Rattle.book.proofs.Numbers.{eight-counts, one-fails, one-goes-on, none-left}
+use Rattle.book.specs.Soundness.{areItemsSound}
+use Rattle.book.specs.Numbers.{allProducts}
+use Rattle.book.proofs.Numbers.{one-fails, one-goes-on, none-left}
 use Rattle.book.proofs.soundness.are_products_sound.Statement.{statement}
 use Rattle.book.proofs.soundness.are_products_sound.Tie as tie
 
 abbrev Inv-loop : tie.InvT-loop
 Inv-loop limits todays lasts p₀ p =
     let test : ℕ → Bool = λ p. areItemsSound p (getD limits p noLimit) (getD todays p noSheet) (getD lasts p noSheet) in
-    (p ≤ 8) × (every test eight ≡ every test (drop p eight))
+    (p ≤ productCount) × (every test allProducts ≡ every test (drop p allProducts))
 
 abbrev μ-loop : tie.MeasureT-loop
 μ-loop limits todays lasts p₀ p =
@@ -52,7 +54,7 @@ returns c =
     let k = c .before .before .before .before .before .before in
     let test : ℕ → Bool = let b = k .before .before .before .before .args .b in λ p. areItemsSound p (limitIn b p) (todayIn b p) (lastIn b p) in
     let no : test (k .loop .p) ≡ false = sym (c .before .is-sound-product .ensures) ∙ not-true _ (c .if1 .taken) in
-    sym (one-fails test 8 eight eight-counts (k .loop .p) (search needs) no (k .loop .inv .1))
+    sym (one-fails test productCount (k .loop .p) (search needs) no (k .loop .inv .1))
 
 add-p : tie.Need-add-p Inv-loop μ-loop
 add-p c = search needs
@@ -65,13 +67,13 @@ loop-again c =
     let k = c .before .before .before .before .before .before in
     let test : ℕ → Bool = let b = k .before .before .before .before .args .b in λ p. areItemsSound p (limitIn b p) (todayIn b p) (lastIn b p) in
     let yes : test (k .loop .p) ≡ true = sym (c .before .is-sound-product .ensures) ∙ not-false _ (c .if1 .left) in
-    (search needs, one-goes-on test 8 eight eight-counts (k .loop .p) (search needs) yes (k .loop .inv .1))
+    (search needs, one-goes-on test productCount (k .loop .p) (search needs) yes (k .loop .inv .1))
 
 returns-2 : tie.Need-returns-2 Inv-loop μ-loop
 returns-2 c =
     let k = c .before in
     let test : ℕ → Bool = let b = k .before .before .before .before .args .b in λ p. areItemsSound p (limitIn b p) (todayIn b p) (lastIn b p) in
-    sym (none-left test 8 eight eight-counts (k .loop .p) (search needs) (k .loop .inv .1))
+    sym (none-left test productCount (k .loop .p) (search needs) (k .loop .inv .1))
 
 pub are-products-sound-spec : {M : Type 1} → statement M
 are-products-sound-spec =

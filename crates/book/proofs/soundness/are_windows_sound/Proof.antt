@@ -7,22 +7,24 @@ use borrow.Author.Tests.{not-true, not-false}
 use lib.ListN.{length, drop}
 use Rattle.grain.specs.Lists.{_and_, every}
 use Rattle.grain.specs.Prices.{isSettlement}
+use Rattle.grain.specs.Products.{productCount}
 use Rattle.windows.specs.declared.Windows.{Windows}
 use Rattle.windows.specs.Windows.{sizeOf}
 use Rattle.windows.proofs.Shown.{too-long}
 use Rattle.windows.proofs.Entries.{entries-are}
-use Rattle.book.specs.Soundness.{eight, isWindowSound}
-use Rattle.book.proofs.Numbers.{eight-counts, one-fails, one-goes-on, none-left}
+use Rattle.book.specs.Soundness.{isWindowSound}
+use Rattle.book.specs.Numbers.{allProducts}
+use Rattle.book.proofs.Numbers.{one-fails, one-goes-on, none-left}
 use Rattle.book.proofs.soundness.are_windows_sound.Statement.{statement}
 use Rattle.book.proofs.soundness.are_windows_sound.Tie as tie
 
 abbrev Inv-loop : tie.InvT-loop
 Inv-loop all sizes p₀ p =
     let w : Windows = record { settlements = all; sizes = sizes } in
-    (p ≤ 8) × (every (isWindowSound w) eight ≡ every (isWindowSound w) (drop p eight))
+    (p ≤ productCount) × (every (isWindowSound w) allProducts ≡ every (isWindowSound w) (drop p allProducts))
 
 abbrev μ-loop : tie.MeasureT-loop
-μ-loop all sizes p₀ p = 8 - p
+μ-loop all sizes p₀ p = productCount - p
 
 loop-holds : tie.Need-loop-holds Inv-loop μ-loop
 loop-holds c = search needs
@@ -39,7 +41,7 @@ returns c =
     let k = c .before .before in
     let w = k .before .before .before .args .w in
     let no : isWindowSound w (k .loop .p) ≡ false = rw (too-long w (k .loop .p) (search needs)) in
-    sym (one-fails (isWindowSound w) 8 eight eight-counts (k .loop .p) (search needs) no (k .loop .inv .1))
+    sym (one-fails (isWindowSound w) productCount (k .loop .p) (search needs) no (k .loop .inv .1))
 
 cast-tick : tie.Need-cast-tick Inv-loop μ-loop
 cast-tick c = search needs
@@ -87,7 +89,7 @@ returns-2 c =
     let k = c .before .before .before .before .before .before .before in
     let w = k .before .before .before .args .w in
     let no : isWindowSound w (k .loop .p) ≡ false = tested (c .before) ∙ not-true _ (c .if2 .taken) in
-    sym (one-fails (isWindowSound w) 8 eight eight-counts (k .loop .p) (search needs) no (k .loop .inv .1))
+    sym (one-fails (isWindowSound w) productCount (k .loop .p) (search needs) no (k .loop .inv .1))
 
 add-p : tie.Need-add-p Inv-loop μ-loop
 add-p c = search needs
@@ -100,12 +102,12 @@ loop-again c =
     let k = c .before .before .before .before .before .before .before in
     let w = k .before .before .before .args .w in
     let yes : isWindowSound w (k .loop .p) ≡ true = tested (c .before) ∙ not-false _ (c .if2 .left) in
-    (search needs, one-goes-on (isWindowSound w) 8 eight eight-counts (k .loop .p) (search needs) yes (k .loop .inv .1))
+    (search needs, one-goes-on (isWindowSound w) productCount (k .loop .p) (search needs) yes (k .loop .inv .1))
 
 returns-3 : tie.Need-returns-3 Inv-loop μ-loop
 returns-3 c =
     let k = c .before in
-    sym (none-left (isWindowSound (k .before .before .before .args .w)) 8 eight eight-counts (k .loop .p) (search needs) (k .loop .inv .1))
+    sym (none-left (isWindowSound (k .before .before .before .args .w)) productCount (k .loop .p) (search needs) (k .loop .inv .1))
 
 pub are-windows-sound-spec : {M : Type 1} → statement M
 are-windows-sound-spec =

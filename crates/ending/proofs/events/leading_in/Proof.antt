@@ -1,35 +1,36 @@
 use borrow.Author.Needs.{needs}
-use Rattle.ending.proofs.SixGroups.{in-order, ends-fit, group-products}
+use Rattle.book.proofs.ProductsBefore.{before-next, before-small, stand-together}
 use Rattle.ending.proofs.events.leading_in.Statement.{statement}
 use Rattle.ending.proofs.events.leading_in.Tie as tie
 
-mul-leading : tie.Need-mul-leading
-mul-leading c = search needs
+products-before-requires : tie.Need-products-before-requires
+products-before-requires c κs = search needs
 
-array-read-leading : tie.Need-array-read-leading
-array-read-leading c = search needs
+add-products-before : tie.Need-add-products-before
+add-products-before c = search needs
 
-mul-leading-2 : tie.Need-mul-leading-2
-mul-leading-2 c = search needs
-
-array-read-leading-2 : tie.Need-array-read-leading-2
-array-read-leading-2 c = search needs
+products-before-requires-2 : tie.Need-products-before-requires-2
+products-before-requires-2 c κs = search needs
 
 leading-requires : tie.Need-leading-requires
 leading-requires c κs =
-    (in-order (c .args .g) (c .pre .0), ends-fit (c .args .g) (c .pre .0), c .pre .1)
+    let a = c .before .before .args in
+    let pre = c .before .before .pre in
+    rw (c .before .products-before .ensures, c .products-before2 .ensures) (before-next (a .g) (pre .0), before-small (a .g) (pre .0), pre .1)
 
 returns : tie.Need-returns
 returns c =
-    rw (← (group-products (c .before .args .g) (c .before .pre .0))) (c .leading .ensures)
+    let k = c .before in
+    let a = k .before .before .args in
+    let pre = k .before .before .pre in
+    rw (← (stand-together (a .g) (pre .0)), ← (k .before .products-before .ensures), ← (k .products-before2 .ensures)) (c .leading .ensures)
 
 pub leading-in-spec : {M : Type 1} → statement M
 leading-in-spec =
     tie.close
     (tie.spec
-    mul-leading
-    array-read-leading
-    mul-leading-2
-    array-read-leading-2
+    products-before-requires
+    add-products-before
+    products-before-requires-2
     leading-requires
     returns)

@@ -4,8 +4,9 @@ use Prim.Native.Nat.{ℕ, _-_, _^_, _≤_, _<_}
 use mathlib.Core.Path.{_≡_, refl, sym, _∙_, ap}
 use mathlib.Core.Bool.{false}
 use borrow.Author.Count.{below-more}
+use Rattle.book.specs.Numbers.{numbersFrom}
 use Rattle.ending.specs.declared.lead.Found.the-variants.{Nobody}
-use Rattle.ending.specs.Lead.{foundAs, productsFrom}
+use Rattle.ending.specs.Lead.{foundAs}
 use Rattle.ending.proofs.Searched.{isMet, Clear, ClearAt, clear-spot, clear-next, none-leads, this-leads}
 use Rattle.ending.proofs.Products.{products-next}
 use Rattle.ending.proofs.Nexts.{nextOf, next-after, next-all}
@@ -15,7 +16,7 @@ use Rattle.ending.proofs.lead.leading.Tie as tie
 abbrev Inv-loop : tie.InvT-loop
 Inv-loop date condition lo hi b month found₀ next₀ p₀ found next p =
     (lo ≤ p) × (p ≤ hi) × (found ≡ Nobody) × ClearAt (isMet b date condition) lo p month
-    × (nextOf (b .today) month 0 (productsFrom lo (hi - lo)) ≡ nextOf (b .today) month next (productsFrom p (hi - p)))
+    × (nextOf (b .today) month 0 (numbersFrom lo (hi - lo)) ≡ nextOf (b .today) month next (numbersFrom p (hi - p)))
     × (next < 2 ^ 32)
 
 abbrev μ-loop : tie.MeasureT-loop
@@ -97,11 +98,11 @@ loop-again c =
 through : (c : tie.After-loop Inv-loop μ-loop Inv-search μ-search)
     → let k = c .before in
     let a = k .before .before .args in
-    k .loop .next ≡ nextOf (a .t1 .today) (k .before .search .month) 0 (productsFrom (a .lo) (a .hi - a .lo))
+    k .loop .next ≡ nextOf (a .t1 .today) (k .before .search .month) 0 (numbersFrom (a .lo) (a .hi - a .lo))
 through c =
     let k = c .before in
     let a = k .before .before .args in
-    next-all (a .t1 .today) (k .before .search .month) (k .loop .next) (k .loop .p) (a .hi) (productsFrom (a .lo) (a .hi - a .lo)) (omega arith) (k .loop .inv .4)
+    next-all (a .t1 .today) (k .before .search .month) (k .loop .next) (k .loop .p) (a .hi) (numbersFrom (a .lo) (a .hi - a .lo)) (omega arith) (k .loop .inv .4)
 
 search-less : tie.Need-search-less Inv-loop μ-loop Inv-search μ-search
 search-less c =
@@ -110,7 +111,7 @@ search-less c =
     let month = k .before .search .month in
     let late : month < k .loop .next =
     rw (through (c .before))
-    (next-after (a .t1 .today) month 0 (productsFrom (a .lo) (a .hi - a .lo)) (λ z. absurd (omega arith))
+    (next-after (a .t1 .today) month 0 (numbersFrom (a .lo) (a .hi - a .lo)) (λ z. absurd (omega arith))
     (rw (← through (c .before)) (omega arith))) in
     omega (arith, k .loop .inv .5)
 

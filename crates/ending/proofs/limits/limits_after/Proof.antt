@@ -2,25 +2,26 @@ use borrow.Author.Needs.{needs}
 use native.Mathlib.Omega.{arith}
 use Prim.Native.Nat.{_-_, _≤_}
 use lib.ListN.{getD}
+use Rattle.grain.specs.Products.{productCount}
 use Rattle.record.specs.State.{groupOf}
 use Rattle.record.specs.End.{isRaised}
+use Rattle.record.proofs.GroupTable.{group-small}
 use Rattle.sheets.proofs.Rest.{mapped}
 use Rattle.book.specs.Book.{noLimit}
 use Rattle.book.proofs.Filled.{Filled, filled-start, filled-next, filled-end}
-use Rattle.book.proofs.Groups.{group-small}
 use Rattle.ending.specs.Ends.{quiet, limitAfter}
 use Rattle.ending.proofs.limits.limits_after.Statement.{statement}
 use Rattle.ending.proofs.limits.limits_after.Tie as tie
 
 abbrev Inv-loop : tie.InvT-loop
 Inv-loop events limits after₀ p₀ after p =
-    (p ≤ 8) × Filled 8 noLimit (λ p. limitAfter (isRaised (getD events (groupOf p) quiet .event)) p (getD limits p noLimit)) (λ q. getD after₀ q noLimit) p after
+    (p ≤ productCount) × Filled productCount noLimit (λ p. limitAfter (isRaised (getD events (groupOf p) quiet .event)) p (getD limits p noLimit)) (λ q. getD after₀ q noLimit) p after
 
 abbrev μ-loop : tie.MeasureT-loop
-μ-loop events limits after₀ p₀ after p = 8 - p
+μ-loop events limits after₀ p₀ after p = productCount - p
 
 loop-holds : tie.Need-loop-holds Inv-loop μ-loop
-loop-holds c = (search needs, filled-start 8 noLimit _ _ (search mapped))
+loop-holds c = (search needs, filled-start productCount noLimit _ _ (search mapped))
 
 group-of-requires : tie.Need-group-of-requires Inv-loop μ-loop
 group-of-requires c κs = search needs
@@ -61,11 +62,11 @@ loop-again : tie.Need-loop-again Inv-loop μ-loop
 loop-again c =
     let g = c .before .before .before .before in
     let k = g .before .before in
-    (omega arith, filled-next 8 noLimit _ _ (k .loop .p) _ (k .loop .inv .1) (omega arith) (c .limit-after .result) (rw (c .limit-after .ensures, c .before .is-raised .ensures, g .group-of .ensures)))
+    (omega arith, filled-next productCount noLimit _ _ (k .loop .p) _ (k .loop .inv .1) (omega arith) (c .limit-after .result) (rw (c .limit-after .ensures, c .before .is-raised .ensures, g .group-of .ensures)))
 
 returns : tie.Need-returns Inv-loop μ-loop
 returns c =
-    let k = c .before in filled-end 8 noLimit _ _ (k .loop .p) _ (k .loop .inv .1) (omega arith)
+    let k = c .before in filled-end productCount noLimit _ _ (k .loop .p) _ (k .loop .inv .1) (omega arith)
 
 pub limits-after-spec : {M : Type 1} → statement M
 limits-after-spec =

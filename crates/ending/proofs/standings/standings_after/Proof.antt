@@ -2,6 +2,7 @@ use borrow.Author.Needs.{needs}
 use native.Mathlib.Omega.{arith}
 use Prim.Native.Nat.{_-_, _≤_}
 use lib.ListN.{getD}
+use Rattle.record.specs.State.{groupCount}
 use Rattle.sheets.proofs.Rest.{mapped}
 use Rattle.book.specs.Book.{noStanding}
 use Rattle.book.proofs.Filled.{Filled, filled-start, filled-next, filled-end}
@@ -11,14 +12,14 @@ use Rattle.ending.proofs.standings.standings_after.Tie as tie
 
 abbrev Inv-loop : tie.InvT-loop
 Inv-loop b date events standings₀ g₀ standings g =
-    (g ≤ 6) × Filled 6 noStanding (standingOfEnd b date events) (λ q. getD standings₀ q noStanding) g standings
+    (g ≤ groupCount) × Filled groupCount noStanding (standingOfEnd b date events) (λ q. getD standings₀ q noStanding) g standings
 
 abbrev μ-loop : tie.MeasureT-loop
-μ-loop b date events standings₀ g₀ standings g = 6 - g
+μ-loop b date events standings₀ g₀ standings g = groupCount - g
 
 loop-holds : tie.Need-loop-holds Inv-loop μ-loop
 loop-holds c =
-    (search needs, filled-start 6 noStanding _ _ (search mapped))
+    (search needs, filled-start groupCount noStanding _ _ (search mapped))
 
 mul-one : tie.Need-mul-one Inv-loop μ-loop
 mul-one c = search needs
@@ -44,11 +45,11 @@ loop-less c = search needs
 loop-again : tie.Need-loop-again Inv-loop μ-loop
 loop-again c =
     let k = c .before .before .before in
-    (omega arith, filled-next 6 noStanding _ _ (k .loop .g) _ (k .loop .inv .1) (omega arith) (c .standing-in .result) (c .standing-in .ensures))
+    (omega arith, filled-next groupCount noStanding _ _ (k .loop .g) _ (k .loop .inv .1) (omega arith) (c .standing-in .result) (c .standing-in .ensures))
 
 returns : tie.Need-returns Inv-loop μ-loop
 returns c =
-    let k = c .before in filled-end 6 noStanding _ _ (k .loop .g) _ (k .loop .inv .1) (omega arith)
+    let k = c .before in filled-end groupCount noStanding _ _ (k .loop .g) _ (k .loop .inv .1) (omega arith)
 
 pub standings-after-spec : {M : Type 1} → statement M
 standings-after-spec =

@@ -1,15 +1,15 @@
 use borrow.Author.Needs.{needs}
 use Prim.Native.Nat.{_≤_, _-_}
 use lib.ListN.{getD}
+use Rattle.grain.specs.Products.{productCount}
 use Rattle.windows.specs.Windows.{windowOf}
 use Rattle.book.specs.Book.{noLimit}
-use Rattle.book.proofs.Filled.{Filled, filled-start, filled-next, filled-end}
+use Rattle.book.proofs.Filled.{Filled, filled-start, filled-next, filled-end, unfilled}
 use Rattle.opening.specs.Opens.{limitOn}
 use Prim.Native.Nat.{_<_}
 use mathlib.Core.Path.{_≡_}
 use lib.ListN.{length}
 use Rattle.sheets.proofs.Rest.{mapped}
-use Rattle.opening.proofs.FilledEight.{unfilled}
 use Rattle.opening.proofs.renewal.limits_on.Statement.{statement}
 use Rattle.opening.proofs.renewal.limits_on.Tie as tie
 
@@ -53,7 +53,7 @@ loop-again : tie.Need-loop-again Inv-loop μ-loop
 loop-again c =
     let k = c .before .before .before in
     let l : k .loop .p < 8 = search needs in
-    let same = unfilled 8 noLimit _ _ (k .loop .p) _ (k .loop .inv .1) l in
+    let same = unfilled productCount noLimit _ _ (k .loop .p) _ (k .loop .inv .1) l in
     (search needs, filled-next 8 noLimit _ _ (k .loop .p) _ (k .loop .inv .1) l _ (rw same at (c .limit-on .ensures)))
 
 returns : tie.Need-returns Inv-loop μ-loop

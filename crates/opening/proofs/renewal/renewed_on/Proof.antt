@@ -3,10 +3,11 @@ use Prim.Native.Nat.{_≤_, _-_}
 use mathlib.Core.Path.{refl}
 use mathlib.Core.Bool.{false}
 use lib.ListN.{getD}
+use Rattle.grain.specs.Products.{productCount}
 use Rattle.windows.specs.Windows.{windowOf}
 use Rattle.book.proofs.Filled.{Filled, filled-start, filled-next, filled-end}
+use Rattle.book.proofs.Numbers.{values-are}
 use Rattle.opening.specs.Opens.{isRenewedBy}
-use Rattle.opening.proofs.FilledEight.{all-eight}
 use Rattle.opening.proofs.renewal.renewed_on.Statement.{statement}
 use Rattle.opening.proofs.renewal.renewed_on.Tie as tie
 
@@ -40,7 +41,7 @@ loop-again c =
 returns : tie.Need-returns Inv-loop μ-loop
 returns c =
     let k = c .before in
-    all-eight _ _ (k .loop .inv .1 .long) (filled-end 8 false _ _ (k .loop .p) _ (k .loop .inv .1) (search needs))
+    values-are false _ productCount _ (k .loop .inv .1 .long) (filled-end productCount false _ _ (k .loop .p) _ (k .loop .inv .1) (search needs))
 
 pub renewed-on-spec : {M : Type 1} → statement M
 renewed-on-spec =

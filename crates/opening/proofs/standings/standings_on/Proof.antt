@@ -1,18 +1,20 @@
 use borrow.Author.Needs.{needs}
 use Prim.Native.Nat.{_<_, _≤_, _-_}
 use lib.ListN.{getD}
+use Rattle.grain.specs.Products.{productCount}
+use Rattle.record.specs.State.{groupCount}
+use Rattle.record.proofs.GroupTable.{group-small}
 use Rattle.sheets.proofs.Rest.{mapped}
 use Rattle.book.specs.Book.{noStanding}
-use Rattle.book.proofs.Groups.{group-small}
 use Rattle.opening.proofs.Starts.{StartedTo, started-first, started-next, started-all}
 use Rattle.opening.proofs.standings.standings_on.Statement.{statement}
 use Rattle.opening.proofs.standings.standings_on.Tie as tie
 
 abbrev Inv-loop : tie.InvT-loop
-Inv-loop renewed after₀ p₀ after p = (p ≤ 8) × StartedTo renewed (λ g. getD after₀ g noStanding) p after
+Inv-loop renewed after₀ p₀ after p = (p ≤ productCount) × StartedTo renewed (λ g. getD after₀ g noStanding) p after
 
 abbrev μ-loop : tie.MeasureT-loop
-μ-loop renewed after₀ p₀ after p = 8 - p
+μ-loop renewed after₀ p₀ after p = productCount - p
 
 loop-holds : tie.Need-loop-holds Inv-loop μ-loop
 loop-holds c = (search needs, started-first _ _ (search mapped))
@@ -20,11 +22,11 @@ loop-holds c = (search needs, started-first _ _ (search mapped))
 group-of-requires : tie.Need-group-of-requires Inv-loop μ-loop
 group-of-requires c κs = search needs
 
--- the group is one of the six
-fits : (c : tie.After-group-of Inv-loop μ-loop) → c .group-of .result < 6
+-- the group is one of the table
+fits : (c : tie.After-group-of Inv-loop μ-loop) → c .group-of .result < groupCount
 fits c =
     let k = c .before .before in
-    let l : k .loop .p < 8 = search needs in
+    let l : k .loop .p < productCount = search needs in
     rw (c .group-of .ensures) (group-small (k .loop .p) l)
 
 mul-standing : tie.Need-mul-standing Inv-loop μ-loop
@@ -55,7 +57,7 @@ loop-again : tie.Need-loop-again Inv-loop μ-loop
 loop-again c =
     let g = c .before .before in
     let k = g .before .before in
-    let l : k .loop .p < 8 = search needs in
+    let l : k .loop .p < productCount = search needs in
     (search needs, rw (g .group-of .ensures) (started-next _ _ (k .loop .p) _ (k .loop .inv .1) l _ (rw (g .group-of .ensures) at (c .standing-on .ensures))))
 
 returns : tie.Need-returns Inv-loop μ-loop
