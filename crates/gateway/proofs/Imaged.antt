@@ -147,7 +147,7 @@ whole-images =
           λ s cs vs z run p size month price.
           ap (λ (r : Record). withSpan (respond r (check p size month price) .answer)) (contents-are s cs vs z run);
       neverUnsound = never-unsound;
-      oneLevel = λ s cs vs z run. agrees.one-level s cs (bookIn z) (contents-are s cs vs z run);
+      together = λ s cs vs z run. agrees.together s cs (bookIn z) (contents-are s cs vs z run);
       coupled = λ s cs vs z run. agrees.coupled s cs (bookIn z) (contents-are s cs vs z run);
       resent = λ s cs vs z run p size month price. resends s cs vs z run p size month price _ refl;
       staysFree =

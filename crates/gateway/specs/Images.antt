@@ -15,7 +15,7 @@ use Rattle.record.specs.State.{groupOf, groupAt}
 use Rattle.record.specs.Founding.{Start, founded}
 use Rattle.record.specs.Record.{Call, check, Answer, checked, answers}
 use Rattle.record.specs.History.{SameFor}
-use Rattle.record.specs.Theorems.{after, historyOf, checkAfter, OneLevel, BetweenLimits}
+use Rattle.record.specs.Theorems.{after, historyOf, checkAfter, Together, BetweenLimits}
 use Rattle.book.specs.Book.{view}
 use Rattle.history.specs.Whole.{SameContents}
 use Rattle.image.specs.Image.{isImage, bookIn}
@@ -76,8 +76,8 @@ pub record WholeImages : Type 0 where
   -- no call of a list returns 1
   pub neverUnsound : (s : Start) (cs : List Call) (vs : List Seen) (z : List ℕ) → ImageRun s cs vs z
       → every (λ v. not (eqb (v .number) unsound)) vs ≡ true
-  -- the three products of the Soybean Complex stand on one level
-  pub oneLevel : (s : Start) (cs : List Call) (vs : List Seen) (z : List ℕ) → ImageRun s cs vs z → OneLevel (view (bookIn z))
+  -- the products of a group stand on one level
+  pub together : (s : Start) (cs : List Call) (vs : List Seen) (z : List ℕ) → ImageRun s cs vs z → Together (view (bookIn z))
   -- said of checks: of two products of one group, two prices, each between its product's limits, are both within or both not
   pub coupled : (s : Start) (cs : List Call) (vs : List Seen) (z : List ℕ) → ImageRun s cs vs z
       → (p q i j m n x y : ℕ) (v w : Verdict) → groupOf p ≡ groupOf q

@@ -12,7 +12,7 @@ use Rattle.record.specs.State.{Product, Group, Record, groupOf, groupAt}
 use Rattle.record.specs.Founding.{Start, isFitStart}
 use Rattle.record.specs.Record.{Call, check, Answer, checked, respond}
 use Rattle.record.specs.History.{SameFor}
-use Rattle.record.specs.Theorems.{after, historyOf, OneLevel, BetweenLimits, Resent}
+use Rattle.record.specs.Theorems.{after, historyOf, Together, BetweenLimits, Resent}
 use Rattle.record.proofs.Proved.{theorems}
 use Rattle.record.proofs.GroupTable.{group-small}
 use Rattle.book.specs.declared.Book.{Book}
@@ -57,8 +57,8 @@ module _ (s : Start) (cs : List Call) (z : Book) (is : view z ≡ after s cs) wh
   pub compared : SameContents z (after s cs)
   compared = same-contents z (after s cs) is
 
-  pub one-level : OneLevel (view z)
-  one-level = rw is (theorems .oneLevel s cs)
+  pub together : Together (view z)
+  together = rw is (theorems .together s cs)
 
   pub coupled : (p q i j m n x y : ℕ) (v w : Verdict) → groupOf p ≡ groupOf q
       → BetweenLimits (view z) p m x → BetweenLimits (view z) q n y

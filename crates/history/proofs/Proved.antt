@@ -94,7 +94,7 @@ whole-history =
       contents = contents-are;
       compared = λ s cs rs z run. agrees.compared s cs z (contents-are s cs rs z run);
       neverUnsound = never-unsound;
-      oneLevel = λ s cs rs z run. agrees.one-level s cs z (contents-are s cs rs z run);
+      together = λ s cs rs z run. agrees.together s cs z (contents-are s cs rs z run);
       coupled = coupled;
       resent =
           λ s cs rs z run p size month price v allowed h.

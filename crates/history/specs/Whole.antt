@@ -9,12 +9,13 @@ use Rattle.grain.specs.Check.{spanIn, isWithin}
 use Rattle.grain.specs.declared.check.Span.{Span}
 use Rattle.grain.specs.declared.check.Verdict.{Verdict}
 use Rattle.grain.specs.declared.check.Verdict.the-variants.{Free}
+use Rattle.grain.specs.Products.{productCount}
 use Rattle.record.specs.Refusals.{unsound}
 use Rattle.record.specs.State.{Record, groupOf, groupAt, productIn}
 use Rattle.record.specs.Founding.{Start, founded}
 use Rattle.record.specs.Record.{Call, Answer, answers}
 use Rattle.record.specs.History.{kept, SameFor}
-use Rattle.record.specs.Theorems.{after, isRefusal, OneLevel, BetweenLimits, Resent}
+use Rattle.record.specs.Theorems.{after, isRefusal, Together, BetweenLimits, Resent}
 use Rattle.sheets.specs.Sheets.{sheetIn}
 use Rattle.windows.specs.Windows.{windowOf}
 use Rattle.book.specs.declared.Book.{Book}
@@ -25,7 +26,6 @@ use Rattle.checking.specs.declared.Checked.{Checked}
 use Rattle.checking.specs.declared.Checked.the-variants.{Is}
 use Rattle.checking.specs.Checks.{Checks}
 use Rattle.history.specs.Trace.{Trace}
-use Rattle.grain.specs.Products.{productCount}
 
 -- A list of calls on a fresh book, which is what an accepted founding returns; their answers, and the book that they leave.
 pub record Run (s : Start) (cs : List Call) (rs : List Answer) (z : Book) : Type 0 where
@@ -60,8 +60,8 @@ pub record WholeHistory : Type 0 where
   pub neverUnsound :
       (s : Start) (cs : List Call) (rs : List Answer) (z : Book) → Run s cs rs z
       → every (λ a. not (isRefusal unsound a)) rs ≡ true
-  -- the three products of the Soybean Complex stand on one level
-  pub oneLevel : (s : Start) (cs : List Call) (rs : List Answer) (z : Book) → Run s cs rs z → OneLevel (view z)
+  -- the products of a group stand on one level
+  pub together : (s : Start) (cs : List Call) (rs : List Answer) (z : Book) → Run s cs rs z → Together (view z)
   -- said of checks: of two products of one group, two prices, each between its product's limits, are both within or both not
   pub coupled :
       (s : Start) (cs : List Call) (rs : List Answer) (z : Book) → Run s cs rs z

@@ -1,8 +1,8 @@
 -- Prices between I and E are within exactly on the expanded level, so for all products of a group or for none.
 use Prim.Native.Nat.{ℕ}
-use mathlib.Core.Path.{_≡_, refl, ap, sym, _∙_}
 use mathlib.Core.Bool.{false}
 use borrow.Author.Tests.{le-leb, lt-leb}
+use mathlib.Core.Path.{_≡_, ap, sym, _∙_}
 use Rattle.grain.specs.Products.{tickOf}
 use Rattle.grain.specs.Check.{verdict, isWithin}
 use Rattle.grain.specs.declared.check.Verdict.{Verdict}
@@ -11,18 +11,21 @@ use Rattle.record.specs.State.{Level, initial, expanded, Record, groupTa
 use Rattle.record.specs.Check.{judged}
 use Rattle.record.specs.Sound.{isExpanded}
 use Rattle.record.specs.Record.{check, checked, respond}
-use Rattle.record.specs.Theorems.{OneLevel, BetweenLimits}
+use Rattle.record.specs.History.{productsOf}
+use Rattle.record.specs.Theorems.{OneLevel, Together, BetweenLimits}
 use Rattle.record.proofs.AcceptedChecks.{passed}
+use Rattle.record.proofs.GroupTable.{is-of}
 
-pub one-level : (r : Record) → OneLevel r
-unfolding groupTable
-one-level r =
+one-level : (r : Record) (g : ℕ) → OneLevel r (productsOf g)
+one-level r g =
     record {
-      level = groupAt r 1 .level;
-      soybeans = record { level = refl; limit = refl };
-      oil = record { level = refl; limit = refl };
-      meal = record { level = refl; limit = refl };
+      level = groupAt r g .level;
+      stands = λ p e. let is = is-of g p e in record { level = rw is; limit = rw is };
     }
+
+pub together : (r : Record) → Together r
+unfolding groupTable
+together r = record { groups = one-level r; complex = one-level r 1 }
 
 module _ (r : Record) (p month price : ℕ) (w : BetweenLimits r p month price) where
   by-level : (tick : ℕ) (l : Level)

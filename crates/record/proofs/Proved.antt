@@ -11,10 +11,10 @@ use Rattle.record.specs.History.{SameFor}
 use Rattle.record.specs.Theorems.{after, historyOf, checkAfter, Theorems}
 use Rattle.record.proofs.Replayed.{replayed}
 use Rattle.record.proofs.Independence.{same-day, same-group}
-use Rattle.record.proofs.Coupled.{one-level, coupled}
 use Rattle.record.proofs.Resending.{resent}
 use Rattle.record.proofs.StaysSound.{founded-sound, always-sound, never-unsound}
 use Rattle.record.proofs.StaysFree.{stays-free}
+use Rattle.record.proofs.Coupled.{together, coupled}
 
 -- a check on a sound Record reads what is common and the product's group
 check-reads : (r t : Record) (p size month price : ℕ) → isSound r ≡ true → isSound t ≡ true
@@ -39,7 +39,7 @@ theorems =
       staysSound = stays-sound;
       neverUnsound = λ s f cs. never-unsound (founded s) cs (founded-sound s f);
       replayed = replayed;
-      oneLevel = λ s cs. one-level (after s cs);
+      together = λ s cs. together (after s cs);
       coupled = λ s cs. coupled (after s cs);
       resent = λ s cs. resent (after s cs);
       staysFree = stays-free;

@@ -2,22 +2,22 @@
 use Prim.Native.Nat.{ℕ, _<_, _≤_}
 use mathlib.Core.Path.{_≡_}
 use mathlib.Core.Bool.{Bool, true, false, not, _&&_}
-use mathlib.Core.List.{List, _++_}
 use mathlib.Core.Option.{some}
 use lib.Dec.{leb, eqb}
-use Rattle.grain.specs.Lists.{every, distance}
+use mathlib.Core.List.{List, [], _∷_, _++_}
 use Rattle.grain.specs.Check.{spanIn, isWithin}
 use Rattle.grain.specs.declared.check.Span.{Span}
 use Rattle.grain.specs.declared.check.Verdict.{Verdict}
 use Rattle.grain.specs.declared.check.Verdict.the-variants.{Free, Within}
+use Rattle.grain.specs.Lists.{every, isIn, distance}
 use Rattle.record.specs.Refusals.{unsound}
 use Rattle.record.specs.State.{Level, Record, dayOf, tradeDate, isSpotOn, groupOf, groupAt, productIn, limitAt, todaysLimit, sheetOr}
 use Rattle.record.specs.Founding.{Start, isFitStart, founded}
 use Rattle.record.specs.Check.{listed}
 use Rattle.record.specs.Sound.{isSound}
 use Rattle.record.specs.Record.{Call, check, Answer, refused, opened, filed, ended, checked, respond, stateAfter, answers}
-use Rattle.record.specs.History.{Entry, kept, SameFor}
 use Rattle.record.specs.Replay.{replay}
+use Rattle.record.specs.History.{Entry, kept, productsOf, SameFor}
 
 -- the Record after a list of calls
 abbrev pub after : Start → List Call → Record
@@ -37,7 +37,7 @@ isRefusal n filed = false
 isRefusal n (ended l) = false
 isRefusal n (checked v) = false
 
--- ---- the Soybean Complex
+-- ---- one level for a group
 
 -- a product of the Record stands on a level, and the limit that a check and refusal 10 use is that level's, by its own amounts.
 -- `limit` holds of every Record by the definition of todaysLimit: that a book's amounts are these is `compared` of history/specs/Whole.antt
@@ -47,14 +47,17 @@ pub record Stands (r : Record) (l : Level) (p : ℕ) : Type 0 where
       todaysLimit (groupAt r (groupOf p)) p
       ≡ limitAt l (productIn (groupAt r (groupOf p)) p .initialLimit) (productIn (groupAt r (groupOf p)) p .expandedLimit)
 
--- Soybeans, Soybean Oil and Soybean Meal stand on one level.
+pub record OneLevel (r : Record) (ps : List ℕ) : Type 0 where
+  pub level : Level
+  pub stands : (p : ℕ) → isIn p ps ≡ true → Stands r level p
+
+-- The products of each group stand on one level, those of the Soybean Complex by name.
 -- It holds of every Record by its shape, as a level belongs to a group: what no shape decides is `coupled` below, of the answers that checks
 -- get, and `compared` of history/specs/Whole.antt, of the levels that a book holds
-pub record OneLevel (r : Record) : Type 0 where
-  pub level : Level
-  pub soybeans : Stands r level 1
-  pub oil : Stands r level 2
-  pub meal : Stands r level 3
+pub record Together (r : Record) : Type 0 where
+  pub groups : (g : ℕ) → OneLevel r (productsOf g)
+  -- Soybeans, Soybean Oil and Soybean Meal
+  pub complex : OneLevel r (1 ∷ 2 ∷ 3 ∷ [])
 
 -- a price of a listed, non-spot contract beyond its product's I and not beyond its E
 pub record BetweenLimits (r : Record) (p month price : ℕ) : Type 0 where
@@ -83,8 +86,8 @@ pub record Theorems : Type 0 where
       → every (λ a. not (isRefusal unsound a)) (answers (founded s) cs) ≡ true
   -- the state after a list is the replay of its history
   pub replayed : (s : Start) (cs : List Call) → after s cs ≡ replay (historyOf s cs) (founded s)
-  -- the products of the Complex stand on one level
-  pub oneLevel : (s : Start) (cs : List Call) → OneLevel (after s cs)
+  -- the products of a group stand on one level
+  pub together : (s : Start) (cs : List Call) → Together (after s cs)
   -- said of answers: of two products of one group, two prices, each between its product's limits, are both within or both not
   pub coupled :
       (s : Start) (cs : List Call) (p q i j m n x y : ℕ) (v w : Verdict) → groupOf p ≡ groupOf q
