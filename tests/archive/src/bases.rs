@@ -162,6 +162,7 @@ fn market() -> Market {
 #[cfg(test)]
 mod tests {
     use super::*;
+    use crate::fields::SETTLEMENTS;
     use oracle::image::BOOK_WORDS;
 
     #[test]
@@ -169,7 +170,7 @@ mod tests {
         let bases = bases();
         let last = &bases.last().expect("there are bases").image;
         let mut emptied = *last;
-        emptied.words_mut()[42..BOOK_WORDS].fill(u32::MAX);
+        emptied.words_mut()[SETTLEMENTS..BOOK_WORDS].fill(u32::MAX);
         let counts = [
             last.windows.counts[0],
             last.today[7].count,

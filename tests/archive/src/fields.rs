@@ -1,9 +1,10 @@
 //! What each word of an image is.
 
+use std::mem::offset_of;
+
 use oracle::book::groups::group_of;
-use oracle::book::sheet::LARGEST_SHEET;
 use oracle::book::window::LARGEST_WINDOW;
-use oracle::image::{BOOK_WORDS, WORDS};
+use oracle::image::{words, Image, SheetWords, BOOK_WORDS, WORDS};
 
 #[derive(Clone, Copy, Debug, PartialEq, Eq)]
 pub enum Field {
@@ -35,14 +36,14 @@ pub enum Sheets {
     Last,
 }
 
-const LIMITS: usize = 6;
-const STANDINGS: usize = 22;
-const COUNTS: usize = 34;
-const SETTLEMENTS: usize = 42;
-const TODAY: usize = 402;
-const LAST: usize = 666;
-const EVENTS: usize = 938;
-const SHEET: usize = 1 + 2 * LARGEST_SHEET;
+const LIMITS: usize = words(offset_of!(Image, limits));
+const STANDINGS: usize = words(offset_of!(Image, standings));
+const COUNTS: usize = words(offset_of!(Image, windows.counts));
+pub const SETTLEMENTS: usize = words(offset_of!(Image, windows.settlements));
+const TODAY: usize = words(offset_of!(Image, today));
+const LAST: usize = words(offset_of!(Image, last));
+const EVENTS: usize = words(offset_of!(Image, events));
+const SHEET: usize = words(size_of::<SheetWords>());
 
 /// The parts of an image that hold the book, by their first words.
 pub const PARTS: [usize; 7] = [0, LIMITS, STANDINGS, COUNTS, SETTLEMENTS, TODAY, LAST];
@@ -109,7 +110,6 @@ fn of_sheet(sheets: Sheets, place: usize) -> Field {
 #[cfg(test)]
 mod tests {
     use super::*;
-    use oracle::image::Image;
 
     /// An image in which each word is its own number.
     fn numbered() -> Image {

@@ -1,7 +1,7 @@
 //! Every call on images of four kinds.
 
 use oracle::book::window::LARGEST_WINDOW;
-use oracle::book::{Book, Level, GROUPS, GROUP_COUNT};
+use oracle::book::{groups, Book, Level, GROUPS, GROUP_COUNT};
 use oracle::history::call::Call;
 use oracle::image::calls::ACCEPTED;
 use oracle::image::{Image, BOOK_WORDS, WORDS};
@@ -116,7 +116,7 @@ impl<'a> Run<'a> {
             return;
         };
         self.reached.count(turn, u32::from(standing.marked));
-        if group == 1 && turn == BROUGHT_BACK {
+        if group == groups::COMPLEX && turn == BROUGHT_BACK {
             self.reached.count(COMPLEX.0, full as u32);
         }
     }

@@ -4,6 +4,7 @@ use super::by_hand::{
     contract, Trial, CORN, CORN_SPAN, EXPANDED, JULY, LIMITS, MARKED, MEAL, OATS, OIL, SOYBEANS,
 };
 use super::end::Event;
+use super::groups::{group_of, COMPLEX};
 use super::{Limits, Standing};
 use crate::refusal::Refusal;
 use crate::verdict::{Span, Verdict};
@@ -101,8 +102,8 @@ fn marked_m_two_expanded_days_at_320_raise() {
 fn marked_n_oil_alone_expands_all_three() {
     let mut trial = corn();
     let events = trial.day(&[(OIL, 7, 200)]);
-    assert_eq!(events[1], Event::Triggered(contract(OIL, 7)));
-    assert_eq!(trial.book.standings[1], EXPANDED);
+    assert_eq!(events[COMPLEX], Event::Triggered(contract(OIL, 7)));
+    assert_eq!(trial.book.standings[COMPLEX], EXPANDED);
     trial.open();
     for (product, limit) in [(1, 600), (2, 300), (3, 300)] {
         let span = Span {
@@ -143,11 +144,11 @@ fn a_raise_in_the_complex_is_by_each_products_own_amounts() {
     let mut trial = corn();
     trial.day(&[(OIL, 0, 200)]);
     assert_eq!(
-        trial.day(&[(MEAL, 0, 300)])[1],
+        trial.day(&[(MEAL, 0, 300)])[COMPLEX],
         Event::Held(contract(MEAL, 0))
     );
     assert_eq!(
-        trial.day(&[(SOYBEANS, 9, -600)])[1],
+        trial.day(&[(SOYBEANS, 9, -600)])[COMPLEX],
         Event::Raised(contract(SOYBEANS, 9))
     );
     let limits: Vec<(u32, u32)> = (1..=3)
@@ -166,13 +167,13 @@ fn the_leading_contract_is_of_the_nearest_month_then_the_lowest_product() {
     let mut trial = corn();
     let events = trial.day(&[(MEAL, 1, 200), (OIL, 1, -200), (SOYBEANS, 2, 400)]);
     // Place 1 is August for all three; place 2 is September.
-    assert_eq!(events[1], Event::Triggered(contract(OIL, 1)));
+    assert_eq!(events[COMPLEX], Event::Triggered(contract(OIL, 1)));
     let events = trial.day(&[(MEAL, 0, 200), (OIL, 1, 300), (SOYBEANS, 0, 398)]);
-    assert_eq!(events[1], Event::Held(contract(MEAL, 0)));
-    assert_eq!(trial.book.standings[1], MARKED);
+    assert_eq!(events[COMPLEX], Event::Held(contract(MEAL, 0)));
+    assert_eq!(trial.book.standings[COMPLEX], MARKED);
     // Meal holds in July, but the raise is led by a contract at E.
     let events = trial.day(&[(MEAL, 0, 250), (MEAL, 5, 300), (OIL, 5, 300)]);
-    assert_eq!(events[1], Event::Raised(contract(OIL, 5)));
+    assert_eq!(events[COMPLEX], Event::Raised(contract(OIL, 5)));
 }
 
 #[test]
@@ -202,12 +203,15 @@ fn moves_that_no_list_of_calls_reaches() {
     (0..8).for_each(|product| trial.file(product));
     trial.book.sheets_in[OATS].as_mut().expect("a sheet")[0].settlement = 6_162;
     let mut expanded = trial.book.clone();
-    expanded.standings[4] = EXPANDED;
-    assert_eq!(trial.book.end().expect("an end")[4], Event::Quiet);
+    expanded.standings[group_of(OATS)] = EXPANDED;
+    assert_eq!(
+        trial.book.end().expect("an end")[group_of(OATS)],
+        Event::Quiet
+    );
     expanded.sheets_in[OATS].as_mut().expect("a sheet")[0].settlement = 6_242;
     let events = expanded.end().expect("an end");
-    assert_eq!(events[4], Event::Held(contract(OATS, 0)));
-    assert_eq!(expanded.standings[4], EXPANDED);
+    assert_eq!(events[group_of(OATS)], Event::Held(contract(OATS, 0)));
+    assert_eq!(expanded.standings[group_of(OATS)], EXPANDED);
 }
 
 #[test]
@@ -219,7 +223,7 @@ fn limits_meet_at_the_largest() {
         trial.day(&[(OIL, 0, initial)]);
         trial.day(&[(OIL, 0, expanded)]);
         assert_eq!(
-            trial.day(&[(OIL, 0, expanded)])[1],
+            trial.day(&[(OIL, 0, expanded)])[COMPLEX],
             Event::Raised(contract(OIL, 0))
         );
     }

@@ -5,7 +5,7 @@ use super::by_hand::{
     SOYBEANS,
 };
 use super::end::Event;
-use super::groups::group_of;
+use super::groups::{group_of, COMPLEX};
 use super::opening::NewLimits;
 use super::{Book, Limits, Standing, GROUPS, GROUP_COUNT};
 use crate::refusal::Refusal;
@@ -97,15 +97,15 @@ fn each_product_brings_its_whole_group_back_and_no_other() {
 fn any_products_of_the_complex_bring_it_back() {
     for choice in 0..8 {
         let mut lengths = [0; 8];
-        for (place, &product) in GROUPS[1].iter().enumerate() {
+        for (place, &product) in GROUPS[COMPLEX].iter().enumerate() {
             lengths[product] = if choice >> place & 1 == 1 { 45 } else { 44 };
         }
         let mut trial = marked_with_windows(lengths);
         let renewed = trial.open_after(LAST_SEASON);
         assert_eq!(renewed, lengths.map(|length| length == 45));
         let standing = if choice == 0 { MARKED } else { INITIAL };
-        assert_eq!(trial.book.standings[1], standing, "{lengths:?}");
-        assert_others_marked(&trial.book, 1);
+        assert_eq!(trial.book.standings[COMPLEX], standing, "{lengths:?}");
+        assert_others_marked(&trial.book, COMPLEX);
     }
 }
 
@@ -179,7 +179,7 @@ fn equal_limits_of_one_product_bring_the_complex_back() {
     let before = trial.book.limits;
     assert_eq!(trial.open_after(LAST_SEASON), alone(MEAL));
     assert_eq!(trial.book.limits, before);
-    assert_eq!(trial.book.standings[1], INITIAL);
+    assert_eq!(trial.book.standings[COMPLEX], INITIAL);
 }
 
 #[test]

@@ -1,6 +1,7 @@
 //! Damage to each field, found by every call; and books that look odd but are sound.
 
 use super::by_hand::{contracts, open_book, JULY, LIMITS};
+use super::groups::group_of;
 use super::sheet::entries;
 use super::{Book, Entry, Level, Limits, Standing};
 use crate::refusal::Refusal;
@@ -75,7 +76,7 @@ fn damaged_limits_and_marks() {
                 book.limits[7] = Limits::from_initial(7, 2_000_010)
             }),
             ("marked at the initial level", |book| {
-                book.standings[5].marked = true
+                book.standings[group_of(7)].marked = true
             }),
         ],
     );

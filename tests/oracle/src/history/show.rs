@@ -1,6 +1,6 @@
 //! The book as one line.
 
-use crate::book::{Book, Entry, Level, Sheet};
+use crate::book::{Book, Entry, Level, Sheet, GROUP_COUNT};
 
 /// The line of a `book` call.
 pub fn book(book: &Book) -> String {
@@ -36,7 +36,7 @@ fn day(book: &Book) -> [String; 3] {
     [u32::from(book.is_open).to_string(), date, left]
 }
 
-fn digits(flags: [bool; 6]) -> String {
+fn digits(flags: [bool; GROUP_COUNT]) -> String {
     joined("", flags.iter().map(|&flag| u32::from(flag).to_string()))
 }
 

@@ -8,6 +8,8 @@ pub mod write;
 #[cfg(test)]
 mod tests;
 
+use std::mem::offset_of;
+
 use crate::book::sheet::LARGEST_SHEET;
 use crate::book::window::LARGEST_WINDOW;
 use crate::book::{GROUP_COUNT, PRODUCT_COUNT};
@@ -16,10 +18,10 @@ use crate::book::{GROUP_COUNT, PRODUCT_COUNT};
 pub const FORMAT: u32 = 1;
 
 /// How many words an image has.
-pub const WORDS: usize = 956;
+pub const WORDS: usize = words(size_of::<Image>());
 
 /// How many of them hold the book; the others hold what the last calls answered.
-pub const BOOK_WORDS: usize = 930;
+pub const BOOK_WORDS: usize = words(offset_of!(Image, renewed));
 
 pub type Words = [u32; WORDS];
 
@@ -85,6 +87,11 @@ pub struct Image {
     pub last: [SheetWords; PRODUCT_COUNT],
     pub renewed: [u32; PRODUCT_COUNT],
     pub events: [EventWords; GROUP_COUNT],
+}
+
+/// So many bytes as words.
+pub const fn words(bytes: usize) -> usize {
+    bytes / size_of::<u32>()
 }
 
 /// Words of 32 bits alone, without padding.

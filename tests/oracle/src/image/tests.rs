@@ -1,7 +1,5 @@
 //! The layout by the header's words, images there and back, and what each call leaves in one.
 
-use std::mem::offset_of;
-
 use super::*;
 use crate::book::by_hand::{open_book, Trial, JULY, LIMITS};
 use crate::book::{Book, Level, Standing};
@@ -49,9 +47,9 @@ fn fields_lie_where_the_header_says() {
         (offset_of!(Image, windows.settlements), 42),
         (offset_of!(Image, today), 402),
         (offset_of!(Image, last), 666),
-        (offset_of!(Image, renewed), BOOK_WORDS),
+        (offset_of!(Image, renewed), 930),
         (offset_of!(Image, events), 938),
-        (size_of::<Image>(), WORDS),
+        (size_of::<Image>(), 956),
     ];
     for (offset, word) in offsets {
         assert_eq!(offset, 4 * word);
@@ -83,7 +81,7 @@ fn another_format_or_flag_holds_no_book() {
         let flags = [
             damaged(|image| image.is_open = word),
             damaged(|image| image.standings[0].expanded = word),
-            damaged(|image| image.standings[5].marked = word),
+            damaged(|image| image.standings[GROUP_COUNT - 1].marked = word),
         ];
         for image in flags {
             assert_eq!(image.book(), None, "flag {word}");

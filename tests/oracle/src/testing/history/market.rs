@@ -2,6 +2,7 @@
 
 use super::listing::{self, Custom};
 use super::pace::Phase;
+use crate::book::groups::group_of;
 use crate::book::{Book, Level, Limits, GROUPS, GROUP_COUNT};
 use crate::dates::is_spot;
 use crate::history::call::SheetCall;
@@ -11,7 +12,7 @@ use crate::testing::random::Random;
 
 pub struct Market {
     pub customs: [Custom; 8],
-    /// A product of the Complex that moves by exactly I and E whenever it can.
+    /// A product that moves by exactly I and E whenever it can, alone in its group.
     pub driver: Option<usize>,
     /// One in so many days has a mood; on the others contracts hardly move.
     pub calm: usize,
@@ -146,13 +147,17 @@ impl Market {
         if !random.one_in(self.calm) {
             return (Background::Small, None);
         }
-        let is_driven = group == 1 && self.driver.is_some() && !random.one_in(5);
+        let is_driven = self.is_driven(group) && !random.one_in(5);
         match (level, is_driven) {
             (Level::Initial, true) => BY_I,
             (Level::Expanded, true) => BY_E,
             (Level::Initial, false) => random.pick(&AT_INITIAL),
             (Level::Expanded, false) => random.pick(&AT_EXPANDED),
         }
+    }
+
+    fn is_driven(&self, group: usize) -> bool {
+        self.driver.is_some_and(|driver| group_of(driver) == group)
     }
 
     /// Expanded, marked or not, into another season, and there on to a raise.
@@ -217,8 +222,7 @@ impl Market {
     }
 
     fn is_meant(&self, line: &Line, which: Which) -> bool {
-        let is_driven = self.driver.is_some() && GROUPS[1].contains(&line.product);
-        if is_driven && self.driver != Some(line.product) {
+        if self.is_driven(group_of(line.product)) && self.driver != Some(line.product) {
             return false;
         }
         let is_first = line.place < PRODUCTS[line.product].first;

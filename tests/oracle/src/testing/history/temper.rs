@@ -5,9 +5,9 @@ use super::listing::{Collected, Custom};
 use super::market::Market;
 use super::pace::{Pace, Phase};
 use super::stray;
+use crate::book::groups::{COMPLEX, GROUPS};
 use crate::book::sheet::LARGEST_SHEET;
 use crate::book::window::LARGEST_WINDOW;
-use crate::book::GROUPS;
 use crate::products::PRODUCTS;
 use crate::testing::random::Random;
 
@@ -108,9 +108,9 @@ fn fill_some_windows(random: &mut Random, temper: &mut Temper, turn: u64) {
     // The first season is a day shorter than the others.
     let one_short = Collected::Behind(stay - LARGEST_WINDOW);
     let later = Collected::Behind(20);
-    let alone = GROUPS[1][turn as usize / 2 % GROUPS[1].len()];
+    let alone = GROUPS[COMPLEX][turn as usize / 2 % GROUPS[COMPLEX].len()];
     for (product, custom) in temper.market.customs.iter_mut().enumerate() {
-        let is_full = match GROUPS[1].contains(&product) && turn.is_multiple_of(2) {
+        let is_full = match GROUPS[COMPLEX].contains(&product) && turn.is_multiple_of(2) {
             true => product == alone,
             false => random.one_in(2),
         };
@@ -157,7 +157,7 @@ fn go_wrong(random: &mut Random, temper: &mut Temper) {
 /// One or two products of the Complex near the largest founding limit, driven by another.
 fn near_the_largest(random: &mut Random, temper: &mut Temper) {
     let driver = random.pick(&[1, 2, 2, 3]);
-    for &product in GROUPS[1] {
+    for &product in GROUPS[COMPLEX] {
         let floor = PRODUCTS[product].floor;
         temper.limits[product] = match product == driver {
             true => floor,

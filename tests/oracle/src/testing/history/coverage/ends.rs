@@ -4,6 +4,7 @@ use super::seasons::Turn;
 use super::{Coverage, Seen};
 use crate::amounts::LARGEST_LIMIT;
 use crate::book::end::Move;
+use crate::book::groups::COMPLEX;
 use crate::book::window::{collected_contract, LARGEST_WINDOW};
 use crate::book::{Book, Level, GROUPS, GROUP_COUNT, PRODUCT_COUNT};
 use crate::dates::{is_spot, Date};
@@ -61,7 +62,7 @@ pub fn wanted() -> Vec<String> {
     let leads = ["triggered", "held", "raised"]
         .into_iter()
         .flat_map(|event| {
-            GROUPS[1]
+            GROUPS[COMPLEX]
                 .iter()
                 .map(move |product| lead_key(event, *product))
         });
@@ -188,7 +189,7 @@ fn observe_lead(coverage: &mut Coverage, word: &str, moves: &[Move]) {
     let month: u32 = month.parse().expect("a month");
     let product: usize = product.parse().expect("a product");
     coverage.count_if(month >= 1 << 31, "end: a month of 2^31 or more leads");
-    if !GROUPS[1].contains(&product) {
+    if !GROUPS[COMPLEX].contains(&product) {
         return;
     }
     coverage.count(lead_key(event, product));

@@ -1,6 +1,7 @@
 //! What changes of season reached: new limits, the groups that they brought back, and the groups that were kept.
 
 use super::{Coverage, Seen};
+use crate::book::groups::COMPLEX;
 use crate::book::window::LARGEST_WINDOW;
 use crate::book::{Book, Level, Standing, GROUPS, GROUP_COUNT, PRODUCT_COUNT};
 use crate::dates::Date;
@@ -53,7 +54,7 @@ pub enum Turn {
 pub fn wanted() -> Vec<String> {
     let fixed = WANTED.iter().map(|what| what.to_string());
     let renewed = (0..PRODUCT_COUNT).map(renewed_key);
-    let alone = GROUPS[1].iter().map(|&product| alone_key(product));
+    let alone = GROUPS[COMPLEX].iter().map(|&product| alone_key(product));
     let back = (0..GROUP_COUNT).flat_map(|group| CAME.map(|came| back_key(group, came)));
     let kept = CAME
         .iter()
@@ -185,7 +186,7 @@ fn observe_back(coverage: &mut Coverage, seen: &Seen, group: usize, renewed: &[u
         renewed.iter().all(is_equal),
         "season: brought back by equal limits alone",
     );
-    if group != 1 {
+    if group != COMPLEX {
         return;
     }
     coverage.count(match renewed {
