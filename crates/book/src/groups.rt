@@ -5,8 +5,8 @@ ghost use Rattle.book.specs.Numbers.{productsBefore};
 use grain::PRODUCT_COUNT;
 use record::GROUP_COUNT;
 
-// The group of each product: the Soybean Complex is 1, 2 and 3.
-const GROUPS: [usize; PRODUCT_COUNT] = [0, 1, 1, 1, 2, 3, 4, 5];
+// The group of each product: the Soybean Complex is 1, 2 and 3, the wheats are 4 and 5.
+const GROUPS: [usize; PRODUCT_COUNT] = [0, 1, 1, 1, 2, 2, 3, 4];
 
 // The group that a product is in; GROUP_COUNT, which is no group, where there is no such product.
 pub fn group_of(p: usize) -> usize

@@ -1,5 +1,5 @@
 -- Which words are an image, at the edges of format and flags.
-use Prim.Native.Nat.{ℕ, _+_}
+use Prim.Native.Nat.{ℕ, _-_}
 use mathlib.Core.Path.{_≡_, refl}
 use mathlib.Core.Bool.{true, false}
 use mathlib.Core.List.{List}
@@ -12,27 +12,37 @@ use Rattle.image.specs.Image.{isImage}
 abbrev blank : ℕ → List ℕ
 blank format = set (replicate at.words 0) at.format format
 
-pub formatOne : isImage (blank 1) ≡ true
+-- this format
+pub formatTwo : isImage (blank 2) ≡ true
 unfolding isImage every _and_
-formatOne = refl
+formatTwo = refl
 
 pub formatNone : isImage (blank 0) ≡ false
 unfolding isImage every _and_
 formatNone = refl
 
-pub formatTwo : isImage (blank 2) ≡ false
+-- that of six groups
+pub formatOne : isImage (blank 1) ≡ false
 unfolding isImage every _and_
-formatTwo = refl
+formatOne = refl
+
+pub formatThree : isImage (blank 3) ≡ false
+unfolding isImage every _and_
+formatThree = refl
+
+-- the mark of the last group
+abbrev lastMark : ℕ
+lastMark = at.windows - 1
 
 -- a day open, and the last group marked
-pub flagsOfOne : isImage (set (set (blank 1) at.isOpen 1) (at.standings + 11) 1) ≡ true
+pub flagsOfOne : isImage (set (set (blank 2) at.isOpen 1) lastMark 1) ≡ true
 unfolding isImage every _and_
 flagsOfOne = refl
 
-pub openOfTwo : isImage (set (blank 1) at.isOpen 2) ≡ false
+pub openOfTwo : isImage (set (blank 2) at.isOpen 2) ≡ false
 unfolding isImage every _and_
 openOfTwo = refl
 
-pub markedOfTwo : isImage (set (blank 1) (at.standings + 11) 2) ≡ false
+pub markedOfTwo : isImage (set (blank 2) lastMark 2) ≡ false
 unfolding isImage every _and_
 markedOfTwo = refl

@@ -6,7 +6,7 @@ use Rattle.record.specs.State.{groupCount, maxContracts}
 
 -- the format of the images that are made and taken; another layout has another number
 abbrev pub formatNumber : ℕ
-formatNumber = 1
+formatNumber = 2
 
 abbrev pub limitWords : ℕ
 limitWords = 2

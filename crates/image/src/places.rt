@@ -5,7 +5,7 @@ use record::GROUP_COUNT;
 use record::MAX_CONTRACTS;
 
 // The format of the images that are made and taken; another layout has another number.
-pub const FORMAT_NUMBER: u32 = 1;
+pub const FORMAT_NUMBER: u32 = 2;
 
 pub const LIMIT_WORDS: usize = 2;
 

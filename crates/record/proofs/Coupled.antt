@@ -25,7 +25,7 @@ one-level r g =
 
 pub together : (r : Record) → Together r
 unfolding groupTable
-together r = record { groups = one-level r; complex = one-level r 1 }
+together r = record { groups = one-level r; complex = one-level r 1; wheats = one-level r 2 }
 
 module _ (r : Record) (p month price : ℕ) (w : BetweenLimits r p month price) where
   by-level : (tick : ℕ) (l : Level)

@@ -117,7 +117,7 @@ pub wholeAnswer :
     ∷ sheet corn cornMonths (4200 ∷ 4000 ∷ 4000 ∷ 4000 ∷ 4000 ∷ 4000 ∷ [])
     ∷ map unmoved notCorn)
     (end ∷ [])
-    ≡ ended (Triggered (lead corn jul24) ∷ Quiet ∷ Quiet ∷ Quiet ∷ Quiet ∷ Quiet ∷ []) ∷ []
+    ≡ ended (Triggered (lead corn jul24) ∷ Quiet ∷ Quiet ∷ Quiet ∷ Quiet ∷ []) ∷ []
 unfolding stateOf
 wholeAnswer = refl
 

@@ -57,13 +57,13 @@ cornGroup = 0
 abbrev pub complex : ℕ
 complex = 1
 
--- the group of Chicago Wheat
-abbrev pub chicagoGroup : ℕ
-chicagoGroup = 2
+-- Chicago Wheat and KC Wheat
+abbrev pub wheats : ℕ
+wheats = 2
 
 -- the group of Oats
 abbrev pub oatsGroup : ℕ
-oatsGroup = 4
+oatsGroup = 3
 
 abbrev pub jul24 : ℕ
 jul24 = contractMonth 2024 7

@@ -22,6 +22,7 @@ pub mod Proved
 pub mod Examples
 pub mod Marked
 pub mod EndCases
+pub mod WheatCases
 pub mod SeasonCases
 pub mod SeasonStartCases
 pub mod WindowCases

@@ -8,7 +8,7 @@ use Rattle.grain.specs.declared.check.Verdict.the-variants.{Within, Above}
 use Rattle.record.specs.State.{Day, Record, initial, expanded}
 use Rattle.record.specs.End.{Event, Quiet, Triggered, Held, Raised}
 use Rattle.record.specs.Record.{Call, opening, check, refused, opened, filed, checked}
-use Rattle.record.proofs.Examples.{corn, soybeans, oil, meal, chicagoWheat, kcWheat, oats, rice, cornGroup, complex, chicagoGroup, oatsGroup, jul25, on, collectedBy, collected, oneContract, fullDay, stateOf, answersAfter, span, Limits, limits, lead, Outcome, outcome, in-one-run}
+use Rattle.record.proofs.Examples.{corn, soybeans, oil, meal, chicagoWheat, kcWheat, oats, rice, cornGroup, complex, wheats, oatsGroup, jul25, on, collectedBy, collected, oneContract, fullDay, stateOf, answersAfter, span, Limits, limits, lead, Outcome, outcome, in-one-run}
 
 -- a day with these July 2025 settlements of Corn, Oil, Chicago Wheat and Oats; no other product moves
 abbrev fourMove : Day → ℕ → ℕ → ℕ → ℕ → List Call
@@ -95,11 +95,17 @@ pub cornReset : outcome (fullFor corn) cornGroup (february ++ opening may1 ∷ [
 unfolding stateOf
 cornReset = in-one-run _ _ _ _ refl
 
--- Chicago Wheat keeps its level and mark over Corn's reset
-pub wheatStays :
-    outcome (fullFor corn) chicagoGroup (february ++ opening may1 ∷ []) ≡ marked chicagoWheat (limits 240 360 ∷ [])
+-- the wheats keep their level and mark over Corn's reset
+pub wheatsStay :
+    outcome (fullFor corn) wheats (february ++ opening may1 ∷ []) ≡ marked chicagoWheat (limits 240 360 ∷ limits 240 360 ∷ [])
 unfolding stateOf
-wheatStays = in-one-run _ _ _ _ refl
+wheatsStay = in-one-run _ _ _ _ refl
+
+-- KC Wheat, which did not move, alone gets new limits, and both wheats come back
+pub kcAlone :
+    outcome (fullFor kcWheat) wheats (february ++ opening may1 ∷ []) ≡ narrow chicagoWheat (limits 240 360 ∷ limits 280 440 ∷ [])
+unfolding stateOf
+kcAlone = in-one-run _ _ _ _ refl
 
 -- ---- no new limits, no reset
 -- 44 settlements in the window

@@ -51,12 +51,12 @@ pub record Record : Type 0 where
   pub common : Common
   pub groups : List Group
 
--- the products of each group: Corn; the Soybean Complex; Chicago Wheat; KC Wheat; Oats; Rough Rice
+-- the products of each group: Corn; the Soybean Complex; Chicago and KC Wheat; Oats; Rough Rice
 unfoldable pub groupTable : List (List ℕ)
-groupTable = (0 ∷ []) ∷ (1 ∷ 2 ∷ 3 ∷ []) ∷ (4 ∷ []) ∷ (5 ∷ []) ∷ (6 ∷ []) ∷ (7 ∷ []) ∷ []
+groupTable = (0 ∷ []) ∷ (1 ∷ 2 ∷ 3 ∷ []) ∷ (4 ∷ 5 ∷ []) ∷ (6 ∷ []) ∷ (7 ∷ []) ∷ []
 
 abbrev pub groupCount : ℕ
-groupCount = 6
+groupCount = 5
 
 -- the place of the group that holds a product
 abbrev pub placeIn : List (List ℕ) → ℕ → ℕ

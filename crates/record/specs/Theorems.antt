@@ -51,13 +51,15 @@ pub record OneLevel (r : Record) (ps : List ℕ) : Type 0 where
   pub level : Level
   pub stands : (p : ℕ) → isIn p ps ≡ true → Stands r level p
 
--- The products of each group stand on one level, those of the Soybean Complex by name.
+-- The products of each group stand on one level, those of the Soybean Complex and the two wheats by name.
 -- It holds of every Record by its shape, as a level belongs to a group: what no shape decides is `coupled` below, of the answers that checks
 -- get, and `compared` of history/specs/Whole.antt, of the levels that a book holds
 pub record Together (r : Record) : Type 0 where
   pub groups : (g : ℕ) → OneLevel r (productsOf g)
   -- Soybeans, Soybean Oil and Soybean Meal
   pub complex : OneLevel r (1 ∷ 2 ∷ 3 ∷ [])
+  -- Chicago Wheat and KC Wheat
+  pub wheats : OneLevel r (4 ∷ 5 ∷ [])
 
 -- a price of a listed, non-spot contract beyond its product's I and not beyond its E
 pub record BetweenLimits (r : Record) (p month price : ℕ) : Type 0 where

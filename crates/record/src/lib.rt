@@ -33,7 +33,7 @@ pub enum Event {
 }
 
 // How many groups the products form.
-pub const GROUP_COUNT: usize = 6;
+pub const GROUP_COUNT: usize = 5;
 
 // An event as an element of an array: of what an end answers, one for each group.
 pub struct GroupEvent {
