@@ -141,6 +141,6 @@ const char *image_state_name(enum image_state state)
     case IMAGE_UNREADABLE:
         return "unreadable";
     default:
-        return "damaged";
+        return "damaged or of another format";
     }
 }
