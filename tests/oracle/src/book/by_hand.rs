@@ -4,7 +4,8 @@ use super::end::{Contract, Event};
 use super::opening::NewLimits;
 use super::{Book, Level, Standing, GROUP_COUNT};
 use crate::products::PRODUCTS;
-use crate::verdict::Span;
+use crate::refusal::Refusal;
+use crate::verdict::{Span, Verdict};
 
 pub const CORN: usize = 0;
 pub const SOYBEANS: usize = 1;
@@ -118,6 +119,35 @@ impl Trial {
     pub fn day(&mut self, changes: &[Change]) -> [Event; GROUP_COUNT] {
         self.open();
         self.rest_of_day(changes)
+    }
+
+    /// Files a product's sheet with July settled elsewhere, on a copy of the book.
+    pub fn filed(&self, product: usize, july: u32) -> Result<(), Refusal> {
+        let mut settlements = self.settlements[product].clone();
+        settlements[0] = july;
+        let mut book = self.book.clone();
+        book.file(product as u32, &self.months[product], &settlements)
+    }
+
+    /// Orders and sheets of July, at the ends of a product's limit today and one tick beyond them.
+    pub fn assert_limit(&self, product: usize, limit: u32) {
+        let tick = PRODUCTS[product].standard_tick;
+        let last = self.settlements[product][0];
+        let span = Span {
+            lowest: last - limit,
+            highest: last + limit,
+        };
+        let beyond = Err(Refusal::Beyond);
+        for (price, verdict, filed) in [
+            (span.highest, Verdict::Within(span), Ok(())),
+            (span.highest + tick, Verdict::Above(span), beyond),
+            (span.lowest, Verdict::Within(span), Ok(())),
+            (span.lowest - tick, Verdict::Below(span), beyond),
+        ] {
+            let checked = self.book.check(product as u32, 0, JULY, price);
+            assert_eq!(checked, Ok(verdict), "{product}: {price}");
+            assert_eq!(self.filed(product, price), filed, "{product}: {price}");
+        }
     }
 
     /// The sheets and the end of a day that is open.

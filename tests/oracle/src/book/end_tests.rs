@@ -1,7 +1,8 @@
 //! The marked numbers (h) to (n), and further ends by hand.
 
 use super::by_hand::{
-    contract, Trial, CORN, CORN_SPAN, EXPANDED, JULY, LIMITS, MARKED, MEAL, OATS, OIL, SOYBEANS,
+    contract, Trial, CHICAGO_WHEAT, CORN, CORN_SPAN, EXPANDED, JULY, KC_WHEAT, LIMITS, MARKED,
+    MEAL, OATS, OIL, SOYBEANS,
 };
 use super::end::Event;
 use super::groups::{group_of, COMPLEX};
@@ -216,23 +217,24 @@ fn moves_that_no_list_of_calls_reaches() {
 
 #[test]
 fn limits_meet_at_the_largest() {
-    let mut limits = LIMITS;
-    limits[SOYBEANS] = 1_000_000;
-    let mut trial = Trial::new(limits);
-    for (initial, expanded) in [(200, 300), (300, 450)] {
-        trial.day(&[(OIL, 0, initial)]);
-        trial.day(&[(OIL, 0, expanded)]);
-        assert_eq!(
-            trial.day(&[(OIL, 0, expanded)])[COMPLEX],
-            Event::Raised(contract(OIL, 0))
-        );
+    for (largest, driver, raises) in [
+        (SOYBEANS, OIL, [(200, 300), (300, 450)]),
+        (CHICAGO_WHEAT, KC_WHEAT, [(240, 360), (360, 560)]),
+    ] {
+        let mut limits = LIMITS;
+        limits[largest] = 1_000_000;
+        let mut trial = Trial::new(limits);
+        for (initial, expanded) in raises {
+            trial.day(&[(driver, 0, initial)]);
+            trial.day(&[(driver, 0, expanded)]);
+            let events = trial.day(&[(driver, 0, expanded)]);
+            let raised = Event::Raised(contract(driver, 0));
+            assert_eq!(events[group_of(largest)], raised);
+        }
+        let limits = trial.book.limits[largest];
+        assert_eq!((limits.initial, limits.expanded), (2_000_000, 2_000_000));
+        assert!(trial.book.is_sound());
     }
-    let largest = Limits {
-        initial: 2_000_000,
-        expanded: 2_000_000,
-    };
-    assert_eq!(trial.book.limits[SOYBEANS], largest);
-    assert!(trial.book.is_sound());
 }
 
 #[test]

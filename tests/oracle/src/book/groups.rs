@@ -1,12 +1,15 @@
 //! The groups that share a level and a mark: the one table of them.
 
-pub const GROUP_COUNT: usize = 6;
+pub const GROUP_COUNT: usize = 5;
 
 /// The product numbers of each group.
-pub const GROUPS: [&[usize]; GROUP_COUNT] = [&[0], &[1, 2, 3], &[4], &[5], &[6], &[7]];
+pub const GROUPS: [&[usize]; GROUP_COUNT] = [&[0], &[1, 2, 3], &[4, 5], &[6], &[7]];
 
 /// The Soybean Complex.
 pub const COMPLEX: usize = 1;
+
+/// Chicago Wheat and KC Wheat.
+pub const WHEATS: usize = 2;
 
 /// The group to which a product belongs.
 pub fn group_of(product: usize) -> usize {

@@ -21,6 +21,8 @@ mod sheet_tests;
 mod sound_tests;
 #[cfg(test)]
 mod spring_tests;
+#[cfg(test)]
+mod wheat_tests;
 
 use crate::amounts;
 use crate::dates::Date;

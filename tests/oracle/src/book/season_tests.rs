@@ -1,15 +1,14 @@
 //! Changes of season by hand: new limits, the groups that they bring back, and those that keep level and mark.
 
 use super::by_hand::{
-    contract, Trial, CHICAGO_WHEAT, CORN, EXPANDED, JULY, KC_WHEAT, LIMITS, MARKED, MEAL, OIL,
+    contract, Trial, CHICAGO_WHEAT, CORN, EXPANDED, KC_WHEAT, LIMITS, MARKED, MEAL, OATS, OIL,
     SOYBEANS,
 };
 use super::end::Event;
-use super::groups::{group_of, COMPLEX};
+use super::groups::{group_of, COMPLEX, WHEATS};
 use super::opening::NewLimits;
 use super::{Book, Limits, Standing, GROUPS, GROUP_COUNT};
 use crate::refusal::Refusal;
-use crate::verdict::{Span, Verdict};
 
 const INITIAL: Standing = Standing::INITIAL;
 
@@ -94,19 +93,26 @@ fn each_product_brings_its_whole_group_back_and_no_other() {
 }
 
 #[test]
-fn any_products_of_the_complex_bring_it_back() {
-    for choice in 0..8 {
-        let mut lengths = [0; 8];
-        for (place, &product) in GROUPS[COMPLEX].iter().enumerate() {
-            lengths[product] = if choice >> place & 1 == 1 { 45 } else { 44 };
+fn any_products_of_the_complex_and_either_wheat_bring_their_group_back() {
+    for group in [COMPLEX, WHEATS] {
+        for choice in 0..1 << GROUPS[group].len() {
+            assert_brought_back_by(group, choice);
         }
-        let mut trial = marked_with_windows(lengths);
-        let renewed = trial.open_after(LAST_SEASON);
-        assert_eq!(renewed, lengths.map(|length| length == 45));
-        let standing = if choice == 0 { MARKED } else { INITIAL };
-        assert_eq!(trial.book.standings[COMPLEX], standing, "{lengths:?}");
-        assert_others_marked(&trial.book, COMPLEX);
     }
+}
+
+/// Those of a group's products have a full window whose bits are in a choice.
+fn assert_brought_back_by(group: usize, choice: usize) {
+    let mut lengths = [0; 8];
+    for (place, &product) in GROUPS[group].iter().enumerate() {
+        lengths[product] = if choice >> place & 1 == 1 { 45 } else { 44 };
+    }
+    let mut trial = marked_with_windows(lengths);
+    let renewed = trial.open_after(LAST_SEASON);
+    assert_eq!(renewed, lengths.map(|length| length == 45));
+    let standing = if choice == 0 { MARKED } else { INITIAL };
+    assert_eq!(trial.book.standings[group], standing, "{lengths:?}");
+    assert_others_marked(&trial.book, group);
 }
 
 /// Oil alone has a full window; at 5,000 that is (e), 350 and 550.
@@ -117,48 +123,36 @@ fn complex_by_oil() -> Trial {
     trial
 }
 
-#[test]
-fn oil_alone_brings_the_complex_back_each_by_its_own_amounts() {
-    let trial = complex_by_oil();
-    assert_eq!(initials(&trial.book)[1..=3], [400, 350, 200]);
-    for (product, limit, tick) in [(SOYBEANS, 400, 2), (OIL, 350, 1), (MEAL, 200, 1)] {
-        let span = Span {
-            lowest: 6_000 - limit,
-            highest: 6_000 + limit,
-        };
-        for (price, verdict) in [
-            (span.highest, Verdict::Within(span)),
-            (span.highest + tick, Verdict::Above(span)),
-            (span.lowest, Verdict::Within(span)),
-            (span.lowest - tick, Verdict::Below(span)),
-        ] {
-            let checked = trial.book.check(product as u32, 0, JULY, price);
-            assert_eq!(checked, Ok(verdict), "{product}: {price}");
+/// A product of a group that was brought back, with its I and E.
+type BroughtBack = (usize, u32, u32);
+
+const COMPLEX_BY_OIL: [BroughtBack; 3] = [(SOYBEANS, 400, 600), (OIL, 350, 550), (MEAL, 200, 300)];
+
+/// Held to I, and not to E.
+fn assert_brought_back(trial: &Trial, group: &[BroughtBack]) {
+    for &(product, initial, expanded) in group {
+        trial.assert_limit(product, initial);
+        for july in [6_000 + expanded, 6_000 - expanded] {
+            let filed = trial.filed(product, july);
+            assert_eq!(filed, Err(Refusal::Beyond), "{product}");
         }
     }
 }
 
 #[test]
-fn a_sheet_of_a_group_brought_back_is_held_to_i() {
-    for (product, initial, expanded, tick) in [
-        (SOYBEANS, 400, 600, 2),
-        (OIL, 350, 550, 1),
-        (MEAL, 200, 300, 1),
-    ] {
-        let trial = complex_by_oil();
-        let months = &trial.months[product];
-        let file = |change: i64| {
-            let mut settlements = trial.settlements[product].clone();
-            settlements[0] = (6_000 + change) as u32;
-            let mut book = trial.book.clone();
-            book.file(product as u32, months, &settlements)
-        };
-        assert_eq!(file(initial), Ok(()), "{product}");
-        assert_eq!(file(-initial), Ok(()), "{product}");
-        for beyond in [initial + tick, expanded] {
-            assert_eq!(file(beyond), Err(Refusal::Beyond), "{product}");
-            assert_eq!(file(-beyond), Err(Refusal::Beyond), "{product}");
-        }
+fn oil_alone_brings_the_complex_back_each_by_its_own_amounts() {
+    let trial = complex_by_oil();
+    assert_eq!(initials(&trial.book)[1..=3], [400, 350, 200]);
+    assert_brought_back(&trial, &COMPLEX_BY_OIL);
+}
+
+#[test]
+fn a_wheat_alone_brings_both_back_each_by_its_own_amounts() {
+    for (renewed, kept) in [(CHICAGO_WHEAT, KC_WHEAT), (KC_WHEAT, CHICAGO_WHEAT)] {
+        let mut trial = full_for(renewed);
+        assert_eq!(trial.open_after(LAST_SEASON), alone(renewed));
+        assert_eq!(trial.book.standings[WHEATS], INITIAL);
+        assert_brought_back(&trial, &[(renewed, 440, 680), (kept, 240, 360)]);
     }
 }
 
@@ -183,14 +177,30 @@ fn equal_limits_of_one_product_bring_the_complex_back() {
 }
 
 #[test]
-fn corn_leaves_the_wheats_where_they_stand() {
-    let mut trial = full_for(CORN);
-    trial.book.standings[group_of(KC_WHEAT)] = EXPANDED;
-    assert_eq!(trial.open_after(LAST_SEASON), alone(CORN));
-    assert_eq!(trial.book.standings[group_of(CORN)], INITIAL);
-    assert_eq!(trial.book.standings[group_of(CHICAGO_WHEAT)], MARKED);
-    assert_eq!(trial.book.standings[group_of(KC_WHEAT)], EXPANDED);
-    assert_eq!(trial.book.limit_today(CHICAGO_WHEAT), 360);
+fn corn_and_oats_leave_the_wheats_where_they_stand() {
+    for standing in [EXPANDED, MARKED] {
+        let mut trial = full_for(CORN);
+        trial.book.windows[OATS] = vec![6_000; 45];
+        trial.book.standings[WHEATS] = standing;
+        trial.open_after(LAST_SEASON);
+        assert_eq!(trial.book.standings[group_of(CORN)], INITIAL);
+        assert_eq!(trial.book.standings[group_of(OATS)], INITIAL);
+        assert_eq!(trial.book.standings[WHEATS], standing);
+        assert_eq!(trial.book.limit_today(CHICAGO_WHEAT), 360);
+        assert_eq!(trial.book.limit_today(KC_WHEAT), 360);
+    }
+}
+
+#[test]
+fn the_wheats_leave_corn_and_oats_where_they_stand() {
+    for product in GROUPS[WHEATS] {
+        let mut trial = full_for(*product);
+        trial.book.standings[group_of(OATS)] = EXPANDED;
+        assert_eq!(trial.open_after(LAST_SEASON), alone(*product));
+        assert_eq!(trial.book.standings[WHEATS], INITIAL);
+        assert_eq!(trial.book.standings[group_of(CORN)], MARKED);
+        assert_eq!(trial.book.standings[group_of(OATS)], EXPANDED);
+    }
 }
 
 #[test]

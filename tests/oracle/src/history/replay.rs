@@ -74,7 +74,7 @@ mod tests {
         let history = format!(
             "{FOUND}book\nopen 2024 6 27 1\nsheet 0 months 24294 24296 settlements 6000 6010\nbook"
         );
-        let amounts = "level=000000 mark=000000 I=200,400,200,200,240,240,160,100 \
+        let amounts = "level=00000 mark=00000 I=200,400,200,200,240,240,160,100 \
                        E=320,600,300,300,360,360,240,150 windows=[];[];[];[];[];[];[];[]";
         let expected = format!(
             "founded\nbook open=0 date=none left=- {amounts} in=-;-;-;-;-;-;-;- \

@@ -43,13 +43,13 @@ fn fields_lie_where_the_header_says() {
         (offset_of!(Image, left), 5),
         (offset_of!(Image, limits), 6),
         (offset_of!(Image, standings), 22),
-        (offset_of!(Image, windows.counts), 34),
-        (offset_of!(Image, windows.settlements), 42),
-        (offset_of!(Image, today), 402),
-        (offset_of!(Image, last), 666),
-        (offset_of!(Image, renewed), 930),
-        (offset_of!(Image, events), 938),
-        (size_of::<Image>(), 956),
+        (offset_of!(Image, windows.counts), 32),
+        (offset_of!(Image, windows.settlements), 40),
+        (offset_of!(Image, today), 400),
+        (offset_of!(Image, last), 664),
+        (offset_of!(Image, renewed), 928),
+        (offset_of!(Image, events), 936),
+        (size_of::<Image>(), 951),
     ];
     for (offset, word) in offsets {
         assert_eq!(offset, 4 * word);

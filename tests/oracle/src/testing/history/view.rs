@@ -68,7 +68,7 @@ fn book_part(group: usize, answer: &str) -> Option<String> {
 mod tests {
     use super::*;
 
-    const BOOK: &str = "book open=1 date=2024-6-27 left=1 level=010000 mark=000001 \
+    const BOOK: &str = "book open=1 date=2024-6-27 left=1 level=01000 mark=00001 \
                         I=1,2,3,4,5,6,7,8 E=11,12,13,14,15,16,17,18 \
                         windows=[6000,6002];[];[7];[];[];[];[];[9] in=[24294:6000];-;-;-;-;-;-;- \
                         last=-;-;-;-;-;-;-;[1:2,3:4]";
@@ -79,14 +79,16 @@ mod tests {
         assert_eq!(part(Kind::Book, 0, BOOK).as_deref(), Some(corn));
         let complex = "1 2024-6-27 1 1 0 2;3;4 12;13;14 [];[7];[] -;-;- -;-;-";
         assert_eq!(part(Kind::Book, 1, BOOK).as_deref(), Some(complex));
+        let wheats = "1 2024-6-27 1 0 0 5;6 15;16 [];[] -;- -;-";
+        assert_eq!(part(Kind::Book, 2, BOOK).as_deref(), Some(wheats));
         let rice = "1 2024-6-27 1 0 1 8 18 [9] - [1:2,3:4]";
-        assert_eq!(part(Kind::Book, 5, BOOK).as_deref(), Some(rice));
+        assert_eq!(part(Kind::Book, 4, BOOK).as_deref(), Some(rice));
         assert_eq!(
             part(Kind::Opened, 1, "opened 0 1 0 1 0 0 0 0").as_deref(),
             Some("1 0 1")
         );
         assert_eq!(
-            part(Kind::Ended, 2, "ended a b c d e f").as_deref(),
+            part(Kind::Ended, 2, "ended a b c d e").as_deref(),
             Some("c")
         );
         let check = "within:5800:6200";
