@@ -11,6 +11,9 @@ pub const COMPLEX: usize = 1;
 /// Chicago Wheat and KC Wheat.
 pub const WHEATS: usize = 2;
 
+/// The groups of several products.
+pub const COUPLED: [usize; 2] = [COMPLEX, WHEATS];
+
 /// The group to which a product belongs.
 pub fn group_of(product: usize) -> usize {
     let has_it = |products: &&[usize]| products.contains(&product);
@@ -30,6 +33,13 @@ mod tests {
                 .filter(|&group| GROUPS[group].contains(&product))
                 .collect();
             assert_eq!(holders, [group_of(product)]);
+        }
+    }
+
+    #[test]
+    fn coupled_groups_have_several_products() {
+        for (group, products) in GROUPS.iter().enumerate() {
+            assert_eq!(products.len() > 1, COUPLED.contains(&group), "{group}");
         }
     }
 

@@ -58,6 +58,8 @@ enum Size {
     BelowInitial,
     BelowExpanded,
     Between,
+    /// By today's limit of another product of the group, if that is lower.
+    OfAnother,
 }
 
 type Mood = (Background, Option<(Which, Size)>);
@@ -66,7 +68,7 @@ const BY_I: Mood = (Background::Small, Some((Which::InFirst, Size::Initial)));
 const HELD: Mood = (Background::Small, Some((Which::Any, Size::Initial)));
 const BY_E: Mood = (Background::Small, Some((Which::Any, Size::Expanded)));
 
-const AT_INITIAL: [Mood; 10] = [
+const AT_INITIAL: [Mood; 11] = [
     (Background::Small, None),
     (Background::Small, None),
     (Background::Still, None),
@@ -77,9 +79,10 @@ const AT_INITIAL: [Mood; 10] = [
     (Background::Small, Some((Which::PastFirst, Size::Initial))),
     (Background::Still, Some((Which::PastFirst, Size::Initial))),
     (Background::Small, Some((Which::Any, Size::BelowInitial))),
+    (Background::Small, Some((Which::InFirst, Size::OfAnother))),
 ];
 
-const AT_EXPANDED: [Mood; 12] = [
+const AT_EXPANDED: [Mood; 13] = [
     BY_E,
     (Background::Still, Some((Which::Any, Size::Expanded))),
     (Background::Small, Some((Which::PastFirst, Size::Expanded))),
@@ -90,6 +93,7 @@ const AT_EXPANDED: [Mood; 12] = [
     (Background::Small, Some((Which::PastFirst, Size::Between))),
     (Background::Small, Some((Which::Any, Size::Between))),
     (Background::Small, Some((Which::Any, Size::BelowInitial))),
+    (Background::Small, Some((Which::Any, Size::OfAnother))),
     (Background::Still, None),
     (Background::Full, None),
 ];
@@ -213,8 +217,10 @@ impl Market {
         }
         let drawn = random.below(choices.len());
         let line = &mut *choices[drawn];
+        let Some(amount) = amount(random, book, line.product, size) else {
+            return;
+        };
         let tick = PRODUCTS[line.product].standard_tick;
-        let amount = amount(random, book.limits[line.product], size, tick);
         let last = line.last.expect("the line has a change");
         if let Some(settlement) = moved(random, last, amount, tick) {
             line.settlement = settlement;
@@ -234,15 +240,27 @@ impl Market {
     }
 }
 
-fn amount(random: &mut Random, limits: Limits, size: Size, tick: u32) -> u32 {
-    let Limits { initial, expanded } = limits;
+fn amount(random: &mut Random, book: &Book, product: usize, size: Size) -> Option<u32> {
+    let tick = PRODUCTS[product].standard_tick;
+    let Limits { initial, expanded } = book.limits[product];
     match size {
-        Size::Initial => initial,
-        Size::Expanded => expanded,
-        Size::BelowInitial => initial - tick,
-        Size::BelowExpanded => expanded - tick,
-        Size::Between => tick * random.between(initial / tick, expanded / tick),
+        Size::Initial => Some(initial),
+        Size::Expanded => Some(expanded),
+        Size::BelowInitial => Some(initial - tick),
+        Size::BelowExpanded => Some(expanded - tick),
+        Size::Between => Some(tick * random.between(initial / tick, expanded / tick)),
+        Size::OfAnother => limit_of_another(random, book, product),
     }
+}
+
+/// Today's limit of another product of the group, lower than one's own; every limit is on every tick.
+fn limit_of_another(random: &mut Random, book: &Book, product: usize) -> Option<u32> {
+    let limits = GROUPS[group_of(product)].iter();
+    let limits = limits.map(|&other| book.limit_today(other));
+    let lower: Vec<u32> = limits
+        .filter(|&limit| limit < book.limit_today(product))
+        .collect();
+    (!lower.is_empty()).then(|| random.pick(&lower))
 }
 
 /// Up or down by a size, where the result is a settlement.

@@ -280,6 +280,7 @@ impl Side {
 #[cfg(test)]
 mod tests {
     use super::*;
+    use crate::book::groups::COUPLED;
     use crate::book::{Level, Standing};
     use crate::history::replay::answers;
     use crate::refusal::Refusal;
@@ -313,18 +314,43 @@ mod tests {
         (Kind::Check, "above"),
     ];
 
-    /// The kinds of answers that the group got on the first side, without contracts and spans.
-    fn reached(pair: &Pair) -> Vec<(Kind, String)> {
+    /// The group's parts of the answers on the first side.
+    fn parts(pair: &Pair) -> Vec<(Kind, String)> {
         let side = &pair.sides[0];
         let answers = answers(&side.text);
         let answers = lines(&answers);
-        let kind_of = |probe: &(usize, Kind)| {
+        let part_of = |probe: &(usize, Kind)| {
             let part = pair.part(&answers, probe);
-            let part = part.expect("nothing agreed is refused");
-            let word = part.split(':').next().unwrap_or_default();
-            (probe.1, word.to_string())
+            (probe.1, part.expect("nothing agreed is refused"))
         };
-        side.probes.iter().map(kind_of).collect()
+        side.probes.iter().map(part_of).collect()
+    }
+
+    /// The kinds of answers that the group got on the first side, without contracts and spans.
+    fn reached(pair: &Pair) -> Vec<(Kind, String)> {
+        let word_of = |(kind, part): (Kind, String)| {
+            let word = part.split(':').next().unwrap_or_default();
+            (kind, word.to_string())
+        };
+        parts(pair).into_iter().map(word_of).collect()
+    }
+
+    /// Whether a product led an event of the group.
+    fn is_led_by(pair: &Pair, product: usize) -> bool {
+        let lead = format!(":{product}");
+        let mut parts = parts(pair).into_iter();
+        parts.any(|(kind, part)| kind == Kind::Ended && part.ends_with(&lead))
+    }
+
+    #[test]
+    fn several_pairs_of_each_coupled_group_are_led_by_each_of_its_products() {
+        for group in COUPLED {
+            let pairs: Vec<Pair> = (0..PAIRS_A_GROUP).map(|seed| pair(group, seed)).collect();
+            for &product in GROUPS[group] {
+                let times = pairs.iter().filter(|pair| is_led_by(pair, product)).count();
+                assert!(times >= SEVERAL, "product {product}: {times}");
+            }
+        }
     }
 
     #[test]

@@ -5,7 +5,7 @@ use super::listing::{Collected, Custom};
 use super::market::Market;
 use super::pace::{Pace, Phase};
 use super::stray;
-use crate::book::groups::{COMPLEX, GROUPS};
+use crate::book::groups::{group_of, COUPLED, GROUPS};
 use crate::book::sheet::LARGEST_SHEET;
 use crate::book::window::LARGEST_WINDOW;
 use crate::products::PRODUCTS;
@@ -98,7 +98,7 @@ fn live_through_seasons(random: &mut Random, temper: &mut Temper) {
 /// One in so many is none.
 const NEVER: usize = usize::MAX;
 
-/// Seasons that give new limits to some products and not to others; every other turn to one of the Complex alone.
+/// Seasons that give new limits to some products and not to others; every other turn to one alone of each coupled group.
 fn fill_some_windows(random: &mut Random, temper: &mut Temper, turn: u64) {
     live_through_seasons(random, temper);
     let stay = random.pick(&[46, 46, 47, 48]);
@@ -108,10 +108,10 @@ fn fill_some_windows(random: &mut Random, temper: &mut Temper, turn: u64) {
     // The first season is a day shorter than the others.
     let one_short = Collected::Behind(stay - LARGEST_WINDOW);
     let later = Collected::Behind(20);
-    let alone = GROUPS[COMPLEX][turn as usize / 2 % GROUPS[COMPLEX].len()];
+    let alone = COUPLED.map(|group| GROUPS[group][turn as usize / 2 % GROUPS[group].len()]);
     for (product, custom) in temper.market.customs.iter_mut().enumerate() {
-        let is_full = match GROUPS[COMPLEX].contains(&product) && turn.is_multiple_of(2) {
-            true => product == alone,
+        let is_full = match COUPLED.contains(&group_of(product)) && turn.is_multiple_of(2) {
+            true => alone.contains(&product),
             false => random.one_in(2),
         };
         custom.contracts = random.pick(&[4, 9, 12]);
@@ -154,10 +154,11 @@ fn go_wrong(random: &mut Random, temper: &mut Temper) {
     temper.pace = random.pick(&[Pace::Daily, Pace::Uneven, Pace::MonthEnds]);
 }
 
-/// One or two products of the Complex near the largest founding limit, driven by another.
+/// Products of a group near the largest founding limit, driven by another of the group.
 fn near_the_largest(random: &mut Random, temper: &mut Temper) {
-    let driver = random.pick(&[1, 2, 2, 3]);
-    for &product in GROUPS[COMPLEX] {
+    let group = random.pick(&COUPLED);
+    let driver = random.pick(GROUPS[group]);
+    for &product in GROUPS[group] {
         let floor = PRODUCTS[product].floor;
         temper.limits[product] = match product == driver {
             true => floor,

@@ -1,5 +1,6 @@
 //! What checks and bare checks reached.
 
+use super::coupled::{coupled_products, is_widened_by_others};
 use super::seasons::Turn;
 use super::spans::Limited;
 use super::{refusal, Coverage, Seen};
@@ -10,7 +11,7 @@ use crate::dates::{is_spot, Date};
 use crate::prices::is_price;
 use crate::products::product;
 
-const WANTED: [&str; 45] = [
+const WANTED: [&str; 43] = [
     "check: refused 2",
     "check: refused 5, no such product",
     "check: refused 5, size not offered",
@@ -37,8 +38,6 @@ const WANTED: [&str; 45] = [
     "check: within by E but not by I, kept over a season",
     "check: below in a group brought back, within E",
     "check: above in a group brought back, within E",
-    "check: below in a group brought back by others, within E",
-    "check: above in a group brought back by others, within E",
     "check: below, initial level",
     "check: below, expanded level",
     "check: above, initial level",
@@ -60,11 +59,27 @@ const WANTED: [&str; 45] = [
 
 pub fn wanted() -> Vec<String> {
     let bare = ["free", "within", "below", "above"].map(|verdict| format!("bare: {verdict}"));
+    let by_others = coupled_products().flat_map(|product| {
+        [
+            widened_key(product),
+            back_key(product, "below"),
+            back_key(product, "above"),
+        ]
+    });
     WANTED
         .iter()
         .map(|what| what.to_string())
         .chain(bare)
+        .chain(by_others)
         .collect()
+}
+
+fn widened_key(product: usize) -> String {
+    format!("check: within by E but not by I, product {product} widened by others alone")
+}
+
+fn back_key(product: usize, verdict: &str) -> String {
+    format!("check: {verdict}, within E, product {product} brought back by others alone")
 }
 
 pub fn observe(coverage: &mut Coverage, numbers: &[u32; 4], seen: &Seen) {
@@ -193,26 +208,24 @@ fn observe_limited(coverage: &mut Coverage, numbers: &[u32; 4], seen: &Seen) {
     let limits = book.limits[number];
     let distance = order.price.abs_diff(order.settlement);
     if distance > limits.initial && distance <= limits.expanded {
-        observe_between(coverage, number, verdict);
+        observe_between(coverage, book, number, verdict);
     }
 }
 
 /// A price that the levels judge differently.
-fn observe_between(coverage: &mut Coverage, number: usize, verdict: &str) {
+fn observe_between(coverage: &mut Coverage, book: &Book, number: usize, verdict: &str) {
     coverage.count_if(verdict == "within", "check: within by E but not by I");
+    if verdict == "within" && is_widened_by_others(coverage, book, number) {
+        coverage.count(widened_key(number));
+    }
     match (coverage.turns[group_of(number)], verdict) {
         (Turn::KeptNext | Turn::KeptSkipped, "within") => {
             coverage.count("check: within by E but not by I, kept over a season");
         }
-        (Turn::BroughtBack, "below" | "above") => {
-            let by = match coverage.renewed[number] {
-                true => "",
-                false => " by others",
-            };
-            coverage.count(format!(
-                "check: {verdict} in a group brought back{by}, within E"
-            ));
-        }
+        (Turn::BroughtBack, "below" | "above") => coverage.count(match coverage.renewed[number] {
+            true => format!("check: {verdict} in a group brought back, within E"),
+            false => back_key(number, verdict),
+        }),
         _ => {}
     }
 }

@@ -1,10 +1,9 @@
 //! What ends reached: events with their leads and edges, and windows.
 
+use super::event::{is_first, Event};
 use super::seasons::Turn;
-use super::{Coverage, Seen};
-use crate::amounts::LARGEST_LIMIT;
+use super::{coupled, Coverage, Seen};
 use crate::book::end::Move;
-use crate::book::groups::COMPLEX;
 use crate::book::window::{collected_contract, LARGEST_WINDOW};
 use crate::book::{Book, Level, GROUPS, GROUP_COUNT, PRODUCT_COUNT};
 use crate::dates::{is_spot, Date};
@@ -30,22 +29,19 @@ const EDGES: [&str; 8] = [
     "reverted with a move one tick below I",
 ];
 
-const WANTED: [&str; 19] = [
+const WANTED: [&str; 16] = [
     "end: refused 2",
     "end: 2 over 12",
     "end: refused 12, none in",
     "end: refused 12, one outstanding",
     "end: first day",
     "end: a spot contract moved by I or more on a quiet day",
-    "end: the lowest product leads among contracts of a month",
     "end: a month of 2^31 or more leads",
     "end: raised by a mark kept into the next season, no new limits",
     "end: raised by a mark kept over a skipped season, a window full",
     "end: held and marked by the first move of E after a dropped mark",
     "end: quiet on a day that brought the group back",
     "end: triggered on a day that brought the group back",
-    "end: raised to I = E = 2000000",
-    "end: raised to I below E = 2000000",
     "window: collects on 15 April",
     "window: collects on 15 October",
     "window: rests",
@@ -59,13 +55,6 @@ pub fn wanted() -> Vec<String> {
     let groups = || 0..GROUP_COUNT;
     let events = groups().flat_map(|group| EVENTS.map(|event| event_key(group, event)));
     let edges = groups().flat_map(|group| EDGES.map(|edge| event_key(group, edge)));
-    let leads = ["triggered", "held", "raised"]
-        .into_iter()
-        .flat_map(|event| {
-            GROUPS[COMPLEX]
-                .iter()
-                .map(move |product| lead_key(event, *product))
-        });
     let windows = (0..PRODUCT_COUNT).flat_map(|product| {
         ["collects", "pushes out the oldest", "misses its contract"]
             .map(|what| window_key(product, what))
@@ -73,20 +62,11 @@ pub fn wanted() -> Vec<String> {
     let emptied = CAN_LEAVE.map(|product| window_key(product, "emptied by a missing contract"));
     let windows = windows.chain(emptied);
     let fixed = WANTED.iter().map(|what| what.to_string());
-    fixed
-        .chain(events)
-        .chain(edges)
-        .chain(leads)
-        .chain(windows)
-        .collect()
+    fixed.chain(events).chain(edges).chain(windows).collect()
 }
 
 fn event_key(group: usize, what: &str) -> String {
     format!("end: group {group} {what}")
-}
-
-fn lead_key(event: &str, product: usize) -> String {
-    format!("end: Complex {event}, led by product {product}")
 }
 
 fn window_key(product: usize, what: &str) -> String {
@@ -100,14 +80,19 @@ pub fn observe(coverage: &mut Coverage, seen: &Seen) {
     let (date, left) = seen.after.last_opened().expect("the day ended");
     let is_first = seen.before.last_ended[0].is_none();
     coverage.count_if(is_first, "end: first day");
-    for (group, word) in seen.answer.split(' ').skip(1).enumerate() {
-        let moves = seen.before.moves(group, date, left);
-        observe_event(coverage, seen, group, word);
-        observe_turn(coverage, seen, group, word, &moves);
-        observe_lead(coverage, word, &moves);
-        observe_edges(coverage, seen.before, group, word, &moves);
-        observe_spot(coverage, seen.before, group, word, (date, left));
+    let moves: [Vec<Move>; GROUP_COUNT] =
+        std::array::from_fn(|group| seen.before.moves(group, date, left));
+    let words = seen.answer.split(' ').skip(1).zip(&moves).enumerate();
+    let events = words.map(|(group, (word, moves))| Event { group, word, moves });
+    let events: Vec<Event> = events.collect();
+    for event in &events {
+        observe_event(coverage, seen, event);
+        observe_turn(coverage, seen, event);
+        observe_edges(coverage, seen.before, event);
+        observe_spot(coverage, seen.before, event, (date, left));
+        coupled::observe(coverage, seen, event);
     }
+    coupled::observe_day(coverage, seen.before, &events);
     for product in 0..PRODUCT_COUNT {
         observe_window(coverage, seen.before, product, date);
     }
@@ -128,43 +113,28 @@ fn observe_refused(coverage: &mut Coverage, book: &Book, refusal: u32) {
     coverage.count_if(outstanding == 1, "end: refused 12, one outstanding");
 }
 
-/// The event's word without its leading contract.
-fn name(word: &str) -> &str {
-    word.split(':').next().unwrap_or_default()
-}
-
-fn observe_event(coverage: &mut Coverage, seen: &Seen, group: usize, word: &str) {
-    let event = match (name(word), seen.after.standings[group].marked) {
+fn observe_event(coverage: &mut Coverage, seen: &Seen, event: &Event) {
+    let what = match (event.name(), seen.after.standings[event.group].marked) {
         ("held", true) => "held and marked",
-        (event, _) => event,
+        (name, _) => name,
     };
-    coverage.count(event_key(group, event));
-    if event != "raised" {
-        return;
-    }
-    for &product in GROUPS[group] {
-        let limits = seen.after.limits[product];
-        let is_largest = limits.expanded == LARGEST_LIMIT;
-        let is_equal = limits.initial == LARGEST_LIMIT;
-        coverage.count_if(is_equal, "end: raised to I = E = 2000000");
-        coverage.count_if(
-            is_largest && !is_equal,
-            "end: raised to I below E = 2000000",
-        );
-    }
+    coverage.count(event_key(event.group, what));
+    let is_far = event.lead().is_some_and(|lead| lead.month >= 1 << 31);
+    coverage.count_if(is_far, "end: a month of 2^31 or more leads");
 }
 
 /// What the first days after a change of season made of a group.
-fn observe_turn(coverage: &mut Coverage, seen: &Seen, group: usize, word: &str, moves: &[Move]) {
-    match (coverage.turns[group], name(word)) {
+fn observe_turn(coverage: &mut Coverage, seen: &Seen, event: &Event) {
+    let &Event { group, moves, .. } = event;
+    match (coverage.turns[group], event.name()) {
         (Turn::KeptNext, "raised") => {
             coverage.count("end: raised by a mark kept into the next season, no new limits");
         }
         (Turn::KeptSkipped, "raised") => {
             coverage.count("end: raised by a mark kept over a skipped season, a window full");
         }
-        (Turn::BroughtBack, event @ ("quiet" | "triggered")) => {
-            coverage.count(format!("end: {event} on a day that brought the group back"));
+        (Turn::BroughtBack, name @ ("quiet" | "triggered")) => {
+            coverage.count(format!("end: {name} on a day that brought the group back"));
         }
         _ => {}
     }
@@ -175,53 +145,24 @@ fn observe_turn(coverage: &mut Coverage, seen: &Seen, group: usize, word: &str, 
     }
     coverage.dropped_marks[group] = false;
     coverage.count_if(
-        name(word) == "held" && seen.after.standings[group].marked,
+        event.name() == "held" && seen.after.standings[group].marked,
         "end: held and marked by the first move of E after a dropped mark",
     );
 }
 
-fn observe_lead(coverage: &mut Coverage, word: &str, moves: &[Move]) {
-    let mut parts = word.split(':');
-    let (Some(event), Some(month), Some(product)) = (parts.next(), parts.next(), parts.next())
-    else {
-        return;
-    };
-    let month: u32 = month.parse().expect("a month");
-    let product: usize = product.parse().expect("a product");
-    coverage.count_if(month >= 1 << 31, "end: a month of 2^31 or more leads");
-    if !GROUPS[COMPLEX].contains(&product) {
-        return;
-    }
-    coverage.count(lead_key(event, product));
-    let lead = moves
-        .iter()
-        .find(|one| one.contract.month == month && one.contract.product == product);
-    let size = lead.map_or(0, |one| one.size);
-    // The same size in a product of the same amounts meets the same condition.
-    let is_tie = moves.iter().any(|one| {
-        let contract = one.contract;
-        contract.month == month && contract.product > product && one.size >= size
-    });
-    coverage.count_if(
-        is_tie,
-        "end: the lowest product leads among contracts of a month",
-    );
-}
-
-fn observe_edges(coverage: &mut Coverage, book: &Book, group: usize, word: &str, moves: &[Move]) {
+fn observe_edges(coverage: &mut Coverage, book: &Book, event: &Event) {
+    let &Event { group, moves, .. } = event;
     let limits = |one: &Move| book.limits[one.contract.product];
     let tick = |one: &Move| PRODUCTS[one.contract.product].standard_tick;
-    let is_first = |one: &Move| one.place < PRODUCTS[one.contract.product].first;
     let below = moves
         .iter()
         .any(|one| one.size + tick(one) == limits(one).initial);
     let mut edge = |happened: bool, place: usize| {
         coverage.count_if(happened, &event_key(group, EDGES[place]));
     };
-    let by =
-        |one: &&Move| word.ends_with(&format!(":{}:{}", one.contract.month, one.contract.product));
-    let lead = moves.iter().find(by);
-    match (name(word), lead) {
+    let lead = event.lead();
+    let lead = moves.iter().find(|one| Some(one.contract) == lead);
+    match (event.name(), lead) {
         ("quiet", _) => {
             let mut past = moves
                 .iter()
@@ -255,17 +196,11 @@ fn changed_before(moves: &[Move], one: &Move) -> usize {
     moves.iter().filter(nearer).count()
 }
 
-fn observe_spot(
-    coverage: &mut Coverage,
-    book: &Book,
-    group: usize,
-    word: &str,
-    (date, left): (Date, u32),
-) {
-    if word != "quiet" || book.standings[group].level != Level::Initial {
+fn observe_spot(coverage: &mut Coverage, book: &Book, event: &Event, (date, left): (Date, u32)) {
+    if event.name() != "quiet" || book.standings[event.group].level != Level::Initial {
         return;
     }
-    for &product in GROUPS[group] {
+    for &product in GROUPS[event.group] {
         let sheet = book.sheets_in[product].iter().flatten();
         let mut spot = sheet.filter(|entry| is_spot(entry.month, date, left));
         let has_moved = spot.any(|entry| {

@@ -1,7 +1,9 @@
 //! How often histories reached what they are meant to reach.
 
 mod checks;
+mod coupled;
 mod ends;
+mod event;
 mod openings;
 mod seasons;
 mod sheets;
@@ -11,6 +13,7 @@ use std::collections::BTreeMap;
 
 use crate::book::{Book, GROUP_COUNT, PRODUCT_COUNT};
 use crate::history::call::Call;
+use coupled::LastEnd;
 use seasons::Turn;
 
 #[derive(Clone, Default)]
@@ -22,6 +25,7 @@ pub struct Coverage {
     renewed: [bool; PRODUCT_COUNT],
     /// Groups whose mark was dropped by new limits, and that have not moved by E since.
     dropped_marks: [bool; GROUP_COUNT],
+    last_end: LastEnd,
 }
 
 /// A call with the answer that the model gave, and the book before and after it.
@@ -158,6 +162,7 @@ pub fn wanted() -> Vec<String> {
         .chain(seasons::wanted())
         .chain(sheets::wanted())
         .chain(ends::wanted())
+        .chain(coupled::wanted())
         .chain(checks::wanted())
         .chain(spans::wanted())
         .collect()

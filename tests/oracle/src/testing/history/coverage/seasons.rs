@@ -1,13 +1,14 @@
 //! What changes of season reached: new limits, the groups that they brought back, and the groups that were kept.
 
+use super::coupled::{coupled_products, name};
 use super::{Coverage, Seen};
-use crate::book::groups::COMPLEX;
+use crate::book::groups::{group_of, COUPLED};
 use crate::book::window::LARGEST_WINDOW;
 use crate::book::{Book, Level, Standing, GROUPS, GROUP_COUNT, PRODUCT_COUNT};
 use crate::dates::Date;
 use crate::products::PRODUCTS;
 
-const WANTED: [&str; 16] = [
+const WANTED: [&str; 14] = [
     "season: next, in May",
     "season: next, in November",
     "season: next, with 1 to 44 in a window",
@@ -22,8 +23,6 @@ const WANTED: [&str; 16] = [
     "season: brought back by equal limits alone",
     "season: one group brought back, another kept expanded",
     "season: one group brought back, another kept marked",
-    "season: Complex brought back by two products",
-    "season: Complex brought back by all three",
 ];
 
 /// The standings that a change of season can bring back or keep.
@@ -54,7 +53,11 @@ pub enum Turn {
 pub fn wanted() -> Vec<String> {
     let fixed = WANTED.iter().map(|what| what.to_string());
     let renewed = (0..PRODUCT_COUNT).map(renewed_key);
-    let alone = GROUPS[COMPLEX].iter().map(|&product| alone_key(product));
+    let alone = coupled_products().flat_map(|product| CAME.map(|came| alone_key(product, came)));
+    let together = COUPLED.iter().flat_map(|&group| {
+        let counts = 2..=GROUPS[group].len();
+        counts.map(move |count| together_key(group, count))
+    });
     let back = (0..GROUP_COUNT).flat_map(|group| CAME.map(|came| back_key(group, came)));
     let kept = CAME
         .iter()
@@ -62,6 +65,7 @@ pub fn wanted() -> Vec<String> {
     fixed
         .chain(renewed)
         .chain(alone)
+        .chain(together)
         .chain(back)
         .chain(kept)
         .collect()
@@ -71,8 +75,13 @@ fn renewed_key(product: usize) -> String {
     format!("season: product {product} renewed")
 }
 
-fn alone_key(product: usize) -> String {
-    format!("season: Complex brought back by product {product} alone")
+fn alone_key(product: usize, came: &str) -> String {
+    let group = name(group_of(product));
+    format!("season: {came} {group} brought back by product {product} alone")
+}
+
+fn together_key(group: usize, count: usize) -> String {
+    format!("season: {} brought back by {count} products", name(group))
 }
 
 fn back_key(group: usize, came: &str) -> String {
@@ -153,7 +162,7 @@ fn observe_group(coverage: &mut Coverage, seen: &Seen, group: usize, seasons: u3
     };
     if is_renewed {
         coverage.count(back_key(group, came));
-        observe_back(coverage, seen, group, &full);
+        observe_back(coverage, seen, group, came, &full);
         return Turn::BroughtBack;
     }
     let Some((turn, why)) = kept(seen.before, group, seasons) else {
@@ -179,20 +188,19 @@ fn kept(before: &Book, group: usize, seasons: u32) -> Option<(Turn, &'static str
 }
 
 /// By which products a group was brought back, and whether it lost a mark.
-fn observe_back(coverage: &mut Coverage, seen: &Seen, group: usize, renewed: &[usize]) {
+fn observe_back(coverage: &mut Coverage, seen: &Seen, group: usize, came: &str, renewed: &[usize]) {
     coverage.dropped_marks[group] = seen.before.standings[group].marked;
     let is_equal = |&product: &usize| seen.before.limits[product] == seen.after.limits[product];
     coverage.count_if(
         renewed.iter().all(is_equal),
         "season: brought back by equal limits alone",
     );
-    if group != COMPLEX {
+    if !COUPLED.contains(&group) {
         return;
     }
     coverage.count(match renewed {
-        [alone] => alone_key(*alone),
-        [_, _] => "season: Complex brought back by two products".to_string(),
-        _ => "season: Complex brought back by all three".to_string(),
+        [alone] => alone_key(*alone, came),
+        several => together_key(group, several.len()),
     });
 }
 

@@ -1,5 +1,6 @@
 //! What sheets reached: refusals in order, by entry too, and the shapes that were filed.
 
+use super::coupled::{coupled_products, is_widened_by_others};
 use super::seasons::Turn;
 use super::{Coverage, Seen};
 use crate::amounts::LARGEST_LIMIT;
@@ -11,7 +12,7 @@ use crate::history::call::SheetCall;
 use crate::prices::{is_price, LARGEST_PRICE};
 use crate::products::{product, Product};
 
-const WANTED: [&str; 39] = [
+const WANTED: [&str; 38] = [
     "sheet: refused 2",
     "sheet: refused 5",
     "sheet: refused 11",
@@ -35,7 +36,6 @@ const WANTED: [&str; 39] = [
     "sheet: refused 10, by one tick",
     "sheet: refused 10, at the expanded level",
     "sheet: refused 10 in a group brought back, within E",
-    "sheet: refused 10 in a group brought back by others, within E",
     "sheet: filed with 1 entry",
     "sheet: filed with 16 entries",
     "sheet: filed on a first day",
@@ -86,7 +86,15 @@ pub fn wanted() -> Vec<String> {
     let by_entry = by_entry.flat_map(|&(first, later)| {
         [true, false].map(|is_earlier| pair_by_entry(first, later, is_earlier))
     });
-    fixed.chain(pairs).chain(by_entry).collect()
+    let by_others = coupled_products().flat_map(|product| {
+        let edges = [true, false].map(|is_up| EDGES.map(|edge| widened_key(product, edge, is_up)));
+        edges.concat().into_iter().chain([back_key(product)])
+    });
+    fixed
+        .chain(pairs)
+        .chain(by_entry)
+        .chain(by_others)
+        .collect()
 }
 
 fn pair(first: u32, later: u32) -> String {
@@ -96,6 +104,18 @@ fn pair(first: u32, later: u32) -> String {
 fn pair_by_entry(first: u32, later: u32, is_earlier: bool) -> String {
     let place = if is_earlier { "an earlier" } else { "a later" };
     format!("sheet: {first} over {later} at {place} entry")
+}
+
+/// Either side of E, for a product that others alone widened.
+const EDGES: [&str; 2] = ["filed at E", "refused 10 by one tick beyond E"];
+
+fn widened_key(product: usize, edge: &str, is_up: bool) -> String {
+    let way = if is_up { "up" } else { "down" };
+    format!("sheet: {edge}, {way}, product {product} widened by others alone")
+}
+
+fn back_key(product: usize) -> String {
+    format!("sheet: refused 10, within E, product {product} brought back by others alone")
 }
 
 /// A row that applies, with the first entry to which it does, where it is of entries.
@@ -255,6 +275,9 @@ fn observe_beyond(coverage: &mut Coverage, call: &SheetCall, book: &Book, place:
     coverage.count_if(is_one_tick, "sheet: refused 10, by one tick");
     let is_expanded = book.standings[group_of(number)].level == Level::Expanded;
     coverage.count_if(is_expanded, "sheet: refused 10, at the expanded level");
+    if is_one_tick && is_widened_by_others(coverage, book, number) {
+        coverage.count(widened_key(number, EDGES[1], settlement > last));
+    }
     if coverage.turns[group_of(number)] == Turn::BroughtBack {
         observe_brought_back(coverage, call, book);
     }
@@ -270,8 +293,8 @@ fn observe_brought_back(coverage: &mut Coverage, call: &SheetCall, book: &Book) 
         return;
     }
     coverage.count(match coverage.renewed[number] {
-        true => "sheet: refused 10 in a group brought back, within E",
-        false => "sheet: refused 10 in a group brought back by others, within E",
+        true => "sheet: refused 10 in a group brought back, within E".to_string(),
+        false => back_key(number),
     });
 }
 
@@ -321,6 +344,9 @@ fn observe_moves(coverage: &mut Coverage, call: &SheetCall, book: &Book) {
             size == limit && is_expanded,
             "sheet: filed at the expanded limit",
         );
+        if size == limit && is_widened_by_others(coverage, book, number) {
+            coverage.count(widened_key(number, EDGES[0], is_up));
+        }
     }
 }
 
