@@ -27,6 +27,10 @@
 #define BOTSKHELA_OATS          6u /* 1/8 cent a bushel      */
 #define BOTSKHELA_ROUGH_RICE    7u /* 1/2 cent a hundredweight */
 
+/* How many products there are, and how many groups of products that share a level. */
+#define BOTSKHELA_PRODUCTS 8u
+#define BOTSKHELA_GROUPS   5u
+
 /* Sizes. Minis are offered for Corn, Soybeans and Chicago Wheat. */
 #define BOTSKHELA_STANDARD 0u
 #define BOTSKHELA_MINI     1u
@@ -63,7 +67,7 @@
 #define BOTSKHELA_RAISED    4u /* back to the initial level, with the expanded limits as its limits */
 
 /* The format of the images that this library makes and takes. */
-#define BOTSKHELA_FORMAT 1u
+#define BOTSKHELA_FORMAT 2u
 
 /* A gateway's record. It begins with six zeros; only the tallied checks write it. */
 typedef struct botskhela_tally {
@@ -111,8 +115,8 @@ typedef struct botskhela_product_sheet {
 
 /* The settlements that each product's season limits will be made of, oldest first. Places from a count on mean nothing. */
 typedef struct botskhela_windows {
-    uint32_t counts[8];
-    uint32_t settlements[8][45];
+    uint32_t counts[BOTSKHELA_PRODUCTS];
+    uint32_t settlements[BOTSKHELA_PRODUCTS][45];
 } botskhela_windows;
 
 /* What an ended day did to a group, and the leading contract, by its month and product: both 0 for quiet and reverted. */
@@ -134,7 +138,7 @@ typedef struct botskhela_event {
  *
  * Read the fields as you like. Write them only by the calls.
  *
- * Groups are numbered 0 Corn, 1 the Soybean Complex, 2 Chicago Wheat, 3 KC Wheat, 4 Oats, 5 Rough Rice.
+ * Groups are numbered 0 Corn, 1 the Soybean Complex, 2 the wheats, 3 Oats, 4 Rough Rice.
  */
 typedef struct botskhela_book {
     uint32_t format; /* BOTSKHELA_FORMAT */
@@ -145,15 +149,15 @@ typedef struct botskhela_book {
     uint32_t day;
     uint32_t left;
 
-    botskhela_limit limits[8];       /* by product */
-    botskhela_standing standings[6]; /* by group */
+    botskhela_limit limits[BOTSKHELA_PRODUCTS];     /* by product */
+    botskhela_standing standings[BOTSKHELA_GROUPS]; /* by group */
     botskhela_windows windows;
-    botskhela_product_sheet today[8]; /* the sheets that are in on the open day, by product */
-    botskhela_product_sheet last[8];  /* the sheets of the last ended day, by product */
+    botskhela_product_sheet today[BOTSKHELA_PRODUCTS]; /* the sheets that are in on the open day, by product */
+    botskhela_product_sheet last[BOTSKHELA_PRODUCTS];  /* the sheets of the last ended day, by product */
 
     /* What the last accepted calls answered. No call looks at it; a founding sets it to zeros. */
-    uint32_t renewed[8];       /* by an opening: 1 for a product that got new limits, else 0 */
-    botskhela_event events[6]; /* by an end, for each group */
+    uint32_t renewed[BOTSKHELA_PRODUCTS];     /* by an opening: 1 for a product that got new limits, else 0 */
+    botskhela_event events[BOTSKHELA_GROUPS]; /* by an end, for each group */
 } botskhela_book;
 
 /* That this compiler lays the image out as the library does, in words of 4 bytes. */
@@ -173,13 +177,13 @@ BOTSKHELA_AT(day, 4);
 BOTSKHELA_AT(left, 5);
 BOTSKHELA_AT(limits, 6);
 BOTSKHELA_AT(standings, 22);
-BOTSKHELA_AT(windows.counts, 34);
-BOTSKHELA_AT(windows.settlements, 42);
-BOTSKHELA_AT(today, 402);
-BOTSKHELA_AT(last, 666);
-BOTSKHELA_AT(renewed, 930);
-BOTSKHELA_AT(events, 938);
-BOTSKHELA_ASSERT(sizeof(botskhela_book) == 4 * 956, "botskhela_book");
+BOTSKHELA_AT(windows.counts, 32);
+BOTSKHELA_AT(windows.settlements, 40);
+BOTSKHELA_AT(today, 400);
+BOTSKHELA_AT(last, 664);
+BOTSKHELA_AT(renewed, 928);
+BOTSKHELA_AT(events, 936);
+BOTSKHELA_ASSERT(sizeof(botskhela_book) == 4 * 951, "botskhela_book");
 BOTSKHELA_ASSERT(sizeof(botskhela_limit) == 4 * 2, "botskhela_limit");
 BOTSKHELA_ASSERT(sizeof(botskhela_standing) == 4 * 2, "botskhela_standing");
 BOTSKHELA_ASSERT(sizeof(botskhela_contract) == 4 * 2, "botskhela_contract");
