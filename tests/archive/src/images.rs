@@ -1,7 +1,8 @@
 //! Every call on images of four kinds.
 
+use oracle::book::groups::COUPLED;
 use oracle::book::window::LARGEST_WINDOW;
-use oracle::book::{groups, Book, Level, GROUPS, GROUP_COUNT};
+use oracle::book::{Book, Level, GROUPS, GROUP_COUNT};
 use oracle::history::call::Call;
 use oracle::image::calls::ACCEPTED;
 use oracle::image::{Image, BOOK_WORDS, WORDS};
@@ -18,7 +19,7 @@ use crate::fields::{Field, PARTS};
 use crate::noise;
 use crate::odd;
 use crate::reached::{
-    Reached, ANSWERS, BROUGHT_BACK, COMPLEX, ENDS, FIRST, NONE_FULL, OUTCOMES, SAME_SEASON,
+    Reached, ANSWERS, BACK_BY, BROUGHT_BACK, ENDS, FIRST, LED_BY, NONE_FULL, OUTCOMES, SAME_SEASON,
     SKIPPED, TURNS, UNSOUND,
 };
 use crate::values::wrong_values;
@@ -90,10 +91,18 @@ impl<'a> Run<'a> {
     fn note_outcome(&mut self, call: &Call, before: &Image, after: &Image) {
         match call {
             Call::Open(_) => self.note_opened(before, after),
-            Call::End => {
-                (after.events.iter()).for_each(|one| self.reached.count("event", one.kind))
-            }
+            Call::End => self.note_ended(after),
             _ => {}
+        }
+    }
+
+    fn note_ended(&mut self, after: &Image) {
+        (after.events.iter()).for_each(|one| self.reached.count("event", one.kind));
+        for (group, (led_by, _)) in COUPLED.into_iter().zip(LED_BY) {
+            let event = after.events[group];
+            if event.month != 0 {
+                self.reached.count(led_by, event.product);
+            }
         }
     }
 
@@ -116,8 +125,9 @@ impl<'a> Run<'a> {
             return;
         };
         self.reached.count(turn, u32::from(standing.marked));
-        if group == groups::COMPLEX && turn == BROUGHT_BACK {
-            self.reached.count(COMPLEX.0, full as u32);
+        let place = COUPLED.iter().position(|&coupled| coupled == group);
+        if let (Some(place), BROUGHT_BACK) = (place, turn) {
+            self.reached.count(BACK_BY[place].0, full as u32);
         }
     }
 
@@ -160,10 +170,11 @@ impl<'a> Run<'a> {
         let is_enough = |_, times| can_be_unsound || times >= LEAST;
         let ends = self.reached.judge(&ENDS, is_enough);
         let turns = self.reached.judge(&TURNS, is_enough);
-        let complex = self.reached.judge(&[COMPLEX], is_enough);
+        let back = self.reached.judge(&BACK_BY, is_enough);
+        let leads = self.reached.judge(&LED_BY, is_enough);
         score.one(
             &format!("{kind} reach every answer"),
-            calls.or(outcomes).or(ends).or(turns).or(complex),
+            calls.or(outcomes).or(ends).or(turns).or(back).or(leads),
         );
     }
 }

@@ -12,6 +12,7 @@ mod lefts;
 mod memory;
 mod noise;
 mod odd;
+mod old_format;
 mod reached;
 mod tallies;
 mod through;
@@ -32,6 +33,7 @@ fn main() -> ExitCode {
     let mut comparer = compare::Comparer::new();
     let bases = bases::bases();
     images::compare(&mut comparer, &bases, &mut score);
+    old_format::compare(&mut comparer, &bases, &mut score);
     lefts::compare(&mut comparer, &bases, &mut score);
     arrays::compare(&mut comparer, &bases, &mut score);
     tallies::compare(&mut comparer, &bases, &mut score);

@@ -38,8 +38,11 @@ pub const TURNS: [Range; 5] = [
     (FIRST, &[0, 1]),
 ];
 
-/// By how many of its products the Complex was brought back.
-pub const COMPLEX: Range = ("Complex back by", &[1, 2, 3]);
+/// By how many of its products each coupled group was brought back, in the order of the oracle's table.
+pub const BACK_BY: [Range; 2] = [("Complex back by", &[1, 2, 3]), ("wheats back by", &[1, 2])];
+
+/// Of which product each coupled group's leading contracts were.
+pub const LED_BY: [Range; 2] = [("Complex led by", &[1, 2, 3]), ("wheats led by", &[4, 5])];
 
 /// Whether the ends of a check's span are the first price of the tick and the last price: 1 where they are.
 pub const ENDS: [Range; 2] = [("lowest is first", &[0, 1]), ("highest is last", &[0, 1])];

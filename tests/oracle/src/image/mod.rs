@@ -15,7 +15,7 @@ use crate::book::window::LARGEST_WINDOW;
 use crate::book::{GROUP_COUNT, PRODUCT_COUNT};
 
 /// The format of the images that hold a book.
-pub const FORMAT: u32 = 1;
+pub const FORMAT: u32 = 2;
 
 /// How many words an image has.
 pub const WORDS: usize = words(size_of::<Image>());

@@ -4,6 +4,7 @@ use super::*;
 use crate::book::by_hand::{open_book, Trial, JULY, LIMITS};
 use crate::book::{Book, Level, Standing};
 use crate::tally::Tally;
+use crate::testing::old_image::{in_six_groups, OLD_FORMAT};
 
 /// Words that no call may write, since no call answers them.
 const KEPT: [u32; 8] = [7, 0, 1, 2, 3, 4, 5, u32::MAX];
@@ -58,12 +59,7 @@ fn fields_lie_where_the_header_says() {
 
 #[test]
 fn a_book_is_read_as_it_was_written() {
-    let mut trial = Trial::new(LIMITS);
-    let ended = trial.book.clone();
-    trial.open();
-    (0..8).for_each(|product| trial.file(product));
-    let fresh = Book::found(LIMITS).expect("fit limits");
-    for book in [fresh, ended, open_book(), trial.book] {
+    for book in books() {
         assert_eq!(Image::of(&book).book(), Some(book));
     }
 }
@@ -72,7 +68,8 @@ fn a_book_is_read_as_it_was_written() {
 fn another_format_or_flag_holds_no_book() {
     assert_unsound(&Image::from_words([0; WORDS]), "zeros");
     assert_unsound(&Image::from_words([1; WORDS]), "ones");
-    for word in [0, 2, 1 << 24, u32::MAX] {
+    assert_unsound(&Image::from_words([2; WORDS]), "twos");
+    for word in [0, 1, 3, 1 << 24, u32::MAX] {
         let image = damaged(|image| image.format = word);
         assert_eq!(image.book(), None, "format {word}");
         assert_unsound(&image, "format");
@@ -88,6 +85,47 @@ fn another_format_or_flag_holds_no_book() {
             assert_unsound(&image, "flag");
         }
     }
+}
+
+/// A fresh book, one after an end, one with some sheets in and one with all.
+fn books() -> [Book; 4] {
+    let mut trial = Trial::new(LIMITS);
+    let ended = trial.book.clone();
+    trial.open();
+    (0..8).for_each(|product| trial.file(product));
+    let fresh = Book::found(LIMITS).expect("fit limits");
+    [fresh, ended, open_book(), trial.book]
+}
+
+#[test]
+fn an_image_of_format_1_is_refused_whatever_else_it_holds() {
+    for book in books() {
+        let image = Image::of(&book);
+        let mut renumbered = image;
+        renumbered.format = OLD_FORMAT;
+        let words = in_six_groups(&image);
+        let held = *words.first_chunk().expect("format 1 had more words");
+        for old in [renumbered, Image::from_words(held)] {
+            assert_eq!(old.book(), None);
+            assert_unsound(&old, "format 1");
+            assert_founds_afresh(old);
+        }
+    }
+}
+
+/// The calls that some of the books would accept are refused, too; a founding is not.
+fn assert_founds_afresh(old: Image) {
+    let mut after = old;
+    let mut tally = Tally::default();
+    assert_eq!(after.open([2024, 6, 4, 26]), 1);
+    assert_eq!(after.sheet(1, &[JULY], &[6_000]), 1);
+    assert_eq!(span(&after, [0, 0, JULY, 6_000]), [1, 0, 0]);
+    assert_eq!(after.tallied_check(&mut tally, [0, 0, JULY, 6_000]), 1);
+    assert_eq!((tally.asked, tally.refused), (1, 1));
+    assert_eq!(after.found([1; 8]), 13);
+    assert_eq!(after, old);
+    assert_eq!(after.found(LIMITS), 0);
+    assert_eq!(after, Image::of(&Book::found(LIMITS).expect("fit limits")));
 }
 
 #[test]

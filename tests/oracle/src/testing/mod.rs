@@ -5,6 +5,7 @@ pub mod damage;
 pub mod draw;
 pub mod files;
 pub mod history;
+pub mod old_image;
 pub mod program;
 pub mod random;
 pub mod score;
