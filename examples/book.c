@@ -32,7 +32,7 @@ static void print_date(const botskhela_book *book)
 
 static void print_renewed(const botskhela_book *book)
 {
-    for (uint32_t product = 0; product < 8; product++) {
+    for (uint32_t product = 0; product < BOTSKHELA_PRODUCTS; product++) {
         if (!book->renewed[product])
             continue;
         print_date(book);
@@ -55,7 +55,7 @@ static void print_event(const botskhela_book *book, uint32_t group)
 
 static void print_events(const botskhela_book *book)
 {
-    for (uint32_t group = 0; group < 6; group++) {
+    for (uint32_t group = 0; group < BOTSKHELA_GROUPS; group++) {
         if (book->events[group].kind != BOTSKHELA_QUIET)
             print_event(book, group);
     }

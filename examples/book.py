@@ -2,6 +2,9 @@
 
 from ctypes import CDLL, POINTER, Structure, byref, c_size_t, c_uint32 as u32, sizeof
 
+PRODUCTS = 8
+GROUPS = 5
+
 
 class Limit(Structure):
     _fields_ = [("initial", u32), ("expanded", u32)]
@@ -20,7 +23,7 @@ class ProductSheet(Structure):
 
 
 class Windows(Structure):
-    _fields_ = [("counts", u32 * 8), ("settlements", u32 * 45 * 8)]
+    _fields_ = [("counts", u32 * PRODUCTS), ("settlements", u32 * 45 * PRODUCTS)]
 
 
 class Event(Structure):
@@ -35,13 +38,13 @@ class Book(Structure):
         ("month", u32),
         ("day", u32),
         ("left", u32),
-        ("limits", Limit * 8),
-        ("standings", Standing * 6),
+        ("limits", Limit * PRODUCTS),
+        ("standings", Standing * GROUPS),
         ("windows", Windows),
-        ("today", ProductSheet * 8),
-        ("last", ProductSheet * 8),
-        ("renewed", u32 * 8),
-        ("events", Event * 6),
+        ("today", ProductSheet * PRODUCTS),
+        ("last", ProductSheet * PRODUCTS),
+        ("renewed", u32 * PRODUCTS),
+        ("events", Event * GROUPS),
     ]
 
 
@@ -49,7 +52,7 @@ class Span(Structure):
     _fields_ = [("answer", u32), ("lowest", u32), ("highest", u32)]
 
 
-assert sizeof(Book) == 4 * 956
+assert sizeof(Book) == 4 * 951
 assert sizeof(Span) == 4 * 3
 
 CORN = 0
@@ -68,7 +71,7 @@ def declared(name, *arguments, result=u32):
     return function
 
 
-found = declared("found", POINTER(Book), *[u32] * 8)
+found = declared("found", POINTER(Book), *[u32] * PRODUCTS)
 open_day = declared("open", POINTER(Book), *[u32] * 4)
 file_sheet = declared("sheet", POINTER(Book), u32, POINTER(u32), c_size_t, POINTER(u32), c_size_t)
 end_day = declared("end", POINTER(Book))
@@ -100,7 +103,7 @@ def main():
 
     must(found(byref(book), 200, 600, 250, 200, 240, 240, 160, 100))
     must(open_day(byref(book), 2024, 6, 25, 3))
-    for product in range(8):
+    for product in range(PRODUCTS):
         must(file_sheet(byref(book), product, numbers(july), len(july), numbers(settlements), len(settlements)))
     must(end_day(byref(book)))
     must(open_day(byref(book), 2024, 6, 26, 2))

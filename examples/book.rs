@@ -7,6 +7,9 @@ use std::mem::size_of;
 /// The image of a book, field for field as botskhela.h has it.
 #[allow(dead_code)] // a Rust program may read every field; this one reads none
 mod image {
+    pub const PRODUCTS: usize = 8;
+    pub const GROUPS: usize = 5;
+
     #[repr(C)]
     pub struct Limit {
         pub initial: u32,
@@ -33,8 +36,8 @@ mod image {
 
     #[repr(C)]
     pub struct Windows {
-        pub counts: [u32; 8],
-        pub settlements: [[u32; 45]; 8],
+        pub counts: [u32; PRODUCTS],
+        pub settlements: [[u32; 45]; PRODUCTS],
     }
 
     #[repr(C)]
@@ -52,17 +55,17 @@ mod image {
         pub month: u32,
         pub day: u32,
         pub left: u32,
-        pub limits: [Limit; 8],
-        pub standings: [Standing; 6],
+        pub limits: [Limit; PRODUCTS],
+        pub standings: [Standing; GROUPS],
         pub windows: Windows,
-        pub today: [ProductSheet; 8],
-        pub last: [ProductSheet; 8],
-        pub renewed: [u32; 8],
-        pub events: [Event; 6],
+        pub today: [ProductSheet; PRODUCTS],
+        pub last: [ProductSheet; PRODUCTS],
+        pub renewed: [u32; PRODUCTS],
+        pub events: [Event; GROUPS],
     }
 }
 
-use image::Book;
+use image::{Book, PRODUCTS};
 
 /// What a check answers, and the span of prices that it goes by.
 #[repr(C)]
@@ -72,7 +75,7 @@ struct Span {
     highest: u32,
 }
 
-const _: () = assert!(size_of::<Book>() == 4 * 956);
+const _: () = assert!(size_of::<Book>() == 4 * 951);
 const _: () = assert!(size_of::<Span>() == 4 * 3);
 
 const CORN: u32 = 0;
@@ -120,7 +123,7 @@ fn accepted(refusal: u32) -> Result<(), Refused> {
 
 // A reference is what the calls ask of a pointer, and a slice what they ask of an array.
 impl Book {
-    fn found(limits: [u32; 8]) -> Result<Book, Refused> {
+    fn found(limits: [u32; PRODUCTS]) -> Result<Book, Refused> {
         let [corn, soybeans, oil, meal, chicago, kc, oats, rice] = limits;
         // A founding looks at nothing that the image holds.
         let mut book: Book = unsafe { std::mem::zeroed() };
@@ -152,7 +155,7 @@ fn main() -> Result<(), Refused> {
     let mut book = Book::found([200, 600, 250, 200, 240, 240, 160, 100])?;
 
     book.open(2024, 6, 25, 3)?;
-    for product in 0..8 {
+    for product in 0..PRODUCTS as u32 {
         book.sheet(product, &[july], &[3600])?;
     }
     book.end()?;

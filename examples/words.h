@@ -8,20 +8,20 @@
 
 static inline const char *product_name(uint32_t product)
 {
-    static const char *const names[8] = {
+    static const char *const names[BOTSKHELA_PRODUCTS] = {
         "Corn", "Soybeans", "Soybean Oil", "Soybean Meal", "Chicago Wheat", "KC Wheat", "Oats", "Rough Rice",
     };
 
-    return product < 8 ? names[product] : "no product";
+    return product < BOTSKHELA_PRODUCTS ? names[product] : "no product";
 }
 
 static inline const char *group_name(uint32_t group)
 {
-    static const char *const names[6] = {
-        "Corn", "Soybean Complex", "Chicago Wheat", "KC Wheat", "Oats", "Rough Rice",
+    static const char *const names[BOTSKHELA_GROUPS] = {
+        "Corn", "Soybean Complex", "Wheats", "Oats", "Rough Rice",
     };
 
-    return group < 6 ? names[group] : "no group";
+    return group < BOTSKHELA_GROUPS ? names[group] : "no group";
 }
 
 static inline const char *event_name(uint32_t kind)

@@ -23,7 +23,7 @@ static unsigned sheets_in(const botskhela_book *book)
 {
     unsigned in = 0;
 
-    for (int product = 0; product < 8; product++)
+    for (uint32_t product = 0; product < BOTSKHELA_PRODUCTS; product++)
         in += book->today[product].count != 0;
     return in;
 }
@@ -45,7 +45,7 @@ static void say_standing(const char *path, const botskhela_book *book)
 static void print_renewed(const botskhela_book *book)
 {
     printf("opened");
-    for (int product = 0; product < 8; product++)
+    for (uint32_t product = 0; product < BOTSKHELA_PRODUCTS; product++)
         printf(" %" PRIu32, book->renewed[product]);
     putchar('\n');
 }
@@ -53,7 +53,7 @@ static void print_renewed(const botskhela_book *book)
 static void print_events(const botskhela_book *book)
 {
     printf("ended");
-    for (int group = 0; group < 6; group++) {
+    for (uint32_t group = 0; group < BOTSKHELA_GROUPS; group++) {
         const botskhela_event *event = &book->events[group];
 
         printf(" %s", event_name(event->kind));
