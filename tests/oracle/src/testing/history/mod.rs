@@ -20,3 +20,6 @@ pub mod temper;
 pub mod text;
 pub mod view;
 pub mod writer;
+
+#[cfg(test)]
+mod calmed_tests;
