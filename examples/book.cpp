@@ -45,7 +45,7 @@ int main()
 
     must(botskhela_found(&book, 200, 600, 250, 200, 240, 240, 160, 100));
     must(botskhela_open(&book, 2024, 6, 25, 3));
-    for (std::uint32_t product = 0; product < 8; product++)
+    for (std::uint32_t product = 0; product < BOTSKHELA_PRODUCTS; product++)
         file_sheet(book, product, {july}, {3600});
     must(botskhela_end(&book));
     must(botskhela_open(&book, 2024, 6, 26, 2));

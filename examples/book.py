@@ -61,7 +61,7 @@ WITHIN = 101
 BELOW = 102
 ABOVE = 103
 
-library = CDLL("libbotskhela.so.1")
+library = CDLL("libbotskhela.so.2")
 
 
 def declared(name, *arguments, result=u32):

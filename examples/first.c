@@ -38,7 +38,7 @@ int main(void)
 
     must(botskhela_found(&book, 200, 600, 250, 200, 240, 240, 160, 100));
     must(botskhela_open(&book, 2024, 6, 25, 3));
-    for (uint32_t product = 0; product < 8; product++)
+    for (uint32_t product = 0; product < BOTSKHELA_PRODUCTS; product++)
         must(botskhela_sheet(&book, product, july, 1, settlements, 1));
     must(botskhela_end(&book));
     must(botskhela_open(&book, 2024, 6, 26, 2));

@@ -130,15 +130,16 @@ typedef struct botskhela_event {
  * The image of a book: a struct of 32-bit numbers without padding, which a program may copy, write to a file, read back and
  * send to another process of the same byte order. Every content is a legal argument.
  *
- * An image whose format is another, or one of whose flags (is_open, expanded, marked) is neither 0 nor 1, holds no book;
- * any other holds one, which may be unsound: a limit that is no limit, a sheet with a month that the product does not trade,
- * and so on. On an image with no book or an unsound one every call but a founding returns BOTSKHELA_UNSOUND. A struct of
- * zeros holds no book. Soundness is no checksum: a damaged image may well be a sound book with another limit. Keep a
- * checksum beside an image that leaves the program's memory, as examples/saved does.
+ * An image whose format is another, as that of books of six groups was, or one of whose flags (is_open, expanded, marked) is
+ * neither 0 nor 1, holds no book; any other holds one, which may be unsound: a limit that is no limit, a sheet with a month
+ * that the product does not trade, and so on. On an image with no book or an unsound one every call but a founding returns
+ * BOTSKHELA_UNSOUND. A struct of zeros holds no book. Soundness is no checksum: a damaged image may well be a sound book with
+ * another limit. Keep a checksum beside an image that leaves the program's memory, as examples/saved does.
  *
  * Read the fields as you like. Write them only by the calls.
  *
- * Groups are numbered 0 Corn, 1 the Soybean Complex, 2 the wheats, 3 Oats, 4 Rough Rice.
+ * Groups are numbered 0 Corn, 1 the Soybean Complex, 2 the wheats (Chicago and KC), 3 Oats, 4 Rough Rice. The products of a group
+ * share its level and mark; each has its own limits.
  */
 typedef struct botskhela_book {
     uint32_t format; /* BOTSKHELA_FORMAT */
