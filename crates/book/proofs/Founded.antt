@@ -1,16 +1,16 @@
 -- A book with a limit for each product and nothing else in it shows a founded Record.
 use Prim.Native.Nat.{ℕ, _<_}
-use mathlib.Core.Option.{none}
-use lib.ListN.{length, getD, replicate, getD-replicate}
-use borrow.Author.Tests.{ltb-true, eq-eqb}
 use mathlib.Core.Path.{_≡_, refl, sym, _∙_}
 use mathlib.Core.Bool.{true, false}
 use mathlib.Core.List.{List, [], map}
+use mathlib.Core.Option.{none}
+use lib.ListN.{length, getD, replicate, getD-replicate}
+use borrow.Author.Tests.{ltb-true, eq-eqb}
 use Rattle.grain.specs.Lists.{_and_, every}
-use Rattle.grain.specs.Amounts.{expandedOf, isFitFounding}
 use Rattle.grain.specs.Products.{productCount, isProduct}
-use Rattle.record.specs.Founding.{Start, limitOf, isFitStart, foundProduct, foundGroup, founded}
+use Rattle.grain.specs.Amounts.{expandedOf, isFitFounding}
 use Rattle.record.specs.State.{groupTable, groupCount, noDay}
+use Rattle.record.specs.Founding.{Start, limitOf, isFitStart, foundProduct, foundGroup, founded}
 use Rattle.record.specs.History.{productsOf}
 use Rattle.record.proofs.GroupTable.{small-products}
 use Rattle.sheets.specs.Sheets.{sheetIn}

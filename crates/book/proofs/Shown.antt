@@ -15,8 +15,8 @@ use Rattle.record.specs.History.{productsOf}
 use Rattle.sheets.specs.Sheets.{sheetIn}
 use Rattle.book.specs.declared.Book.{Book}
 use Rattle.book.specs.Book.{limitIn, standingIn, todayIn, lastIn, levelOf, openedOf, viewProduct, viewGroup, viewGroups, viewCommon, view}
-use Rattle.book.specs.Soundness.{isMarkSound, areItemsSound, isWindowSound}
 use Rattle.book.specs.Numbers.{allProducts, allGroups}
+use Rattle.book.specs.Soundness.{isMarkSound, areItemsSound, isWindowSound}
 use Rattle.book.proofs.Everies.{and-late, every-both, every-concat}
 use Rattle.book.proofs.Numbers.{every-same}
 use Rattle.book.proofs.Views.{shownGroup, groups-are}

@@ -8,8 +8,8 @@ use lib.Dec.{leb, eqb}
 use lib.ListN.{length}
 use borrow.Author.Tests.{leb-true, leb-false, lt-leb, eqb-true, ne-eqb}
 use Rattle.grain.specs.Lists.{_and_, every, isAscending}
-use Rattle.grain.specs.Prices.{isSettlement}
 use Rattle.grain.specs.Products.{productCount}
+use Rattle.grain.specs.Prices.{isSettlement}
 use Rattle.grain.proofs.Tests.{&&-left, &&-right, and-left, and-right}
 use Rattle.record.specs.declared.Day.{Day}
 use Rattle.record.specs.State.{dayOf}

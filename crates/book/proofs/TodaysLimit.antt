@@ -3,9 +3,9 @@ use Prim.Native.Nat.{ℕ, _<_, _≤_}
 use mathlib.Core.Path.{_≡_, _∙_, ap}
 use Rattle.grain.specs.Products.{productCount}
 use Rattle.record.specs.State.{Level, Group, groupTable, groupOf, groupAt, productIn, limitAt, todaysLimit}
+use Rattle.record.proofs.GroupTable.{group-small, no-group}
 use Rattle.book.specs.declared.Book.{Book}
 use Rattle.book.specs.Book.{limitIn, standingIn, levelOf, viewProduct, viewGroup, view}
-use Rattle.record.proofs.GroupTable.{group-small, no-group}
 use Rattle.book.proofs.Views.{group-is, product-is}
 
 pub no-limit : (b : Book) (p : ℕ) → productCount ≤ p → todaysLimit (groupAt (view b) (groupOf p)) p ≡ 0

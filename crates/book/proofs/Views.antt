@@ -1,16 +1,16 @@
 -- The contents of a book by product and by group.
-use mathlib.Core.List.{List, [], _∷_, map}
 use Prim.Native.Nat.{ℕ, _<_}
 use mathlib.Core.Path.{_≡_, refl, sym, _∙_, ap}
-use mathlib.Core.Bool.{Bool, true, false, false≢true, _||_}
+use mathlib.Core.Bool.{Bool, true, false, false≢true}
+use mathlib.Core.List.{List, [], _∷_, map}
 use lib.Dec.{ltb, eqb}
 use lib.ListN.{getD}
-use borrow.Author.Tests.{ltb-true, lt-ltb, eqb-true, eq-eqb, eqb-false, ne-eqb}
+use borrow.Author.Tests.{ltb-true, eqb-true, eq-eqb, eqb-false, ne-eqb}
 use Rattle.grain.specs.Lists.{_and_, every, isIn}
 use Rattle.grain.specs.Products.{productCount, isProduct}
-use Rattle.record.specs.History.{productsOf}
-use Rattle.record.specs.Record.{Call, next, nextCommon, nextGroup}
 use Rattle.record.specs.State.{Product, Group, groupTable, groupCount, groupOf, noGroup, groupAt, find, productIn}
+use Rattle.record.specs.Record.{Call, next, nextCommon, nextGroup}
+use Rattle.record.specs.History.{productsOf}
 use Rattle.record.proofs.GroupTable.{group-small, own-group, small-products}
 use Rattle.book.specs.declared.Book.{Book}
 use Rattle.book.specs.Book.{viewProduct, viewGroup, viewGroups, viewCommon, view}

@@ -2,10 +2,10 @@
 use mathlib.Core.Path.{_≡_}
 use mathlib.Core.Bool.{true, false, cond}
 use lib.ListN.{replicate}
-use Rattle.grain.specs.Refusals.{unfitAmount}
 use Rattle.grain.specs.Products.{productCount}
-use Rattle.record.specs.Founding.{Start, isFitStart, founded}
+use Rattle.grain.specs.Refusals.{unfitAmount}
 use Rattle.record.specs.State.{groupCount, maxContracts, noDay}
+use Rattle.record.specs.Founding.{Start, isFitStart, founded}
 use Rattle.sheets.specs.declared.Sheet.{Sheet}
 use Rattle.sheets.specs.Sheets.{noContract}
 use Rattle.windows.specs.declared.Windows.{Windows}

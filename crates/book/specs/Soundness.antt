@@ -2,9 +2,9 @@
 -- For the functions inside, but for areAllIn, which the end of a day asks: what the test promises is the Record's isSound alone.
 use Prim.Native.Nat.{ℕ}
 use mathlib.Core.Bool.{Bool, not, _||_}
+use mathlib.Core.List.{List}
 use lib.Dec.{leb, eqb}
 use lib.ListN.{length, getD}
-use mathlib.Core.List.{List}
 use Rattle.grain.specs.Lists.{_and_, every}
 use Rattle.grain.specs.Prices.{isSettlement}
 use Rattle.grain.specs.Amounts.{windowLength, expandedOf, isFitAmount}

@@ -1,23 +1,24 @@
 -- What an ended day leaves shows the Record's end.
 use Prim.Native.Nat.{ℕ, _<_}
+use mathlib.Core.Path.{_≡_, refl, sym, _∙_, ap}
 use mathlib.Core.Bool.{Bool, true, false, cond}
+use mathlib.Core.List.{List, map}
 use mathlib.Core.Option.{none}
 use lib.ListN.{getD, List·getD-map}
 use borrow.Author.Tests.{ltb-true, eqb-true}
-use mathlib.Core.Path.{_≡_, refl, sym, _∙_, ap}
-use mathlib.Core.List.{List, map}
-use Rattle.grain.specs.Amounts.{expandedOf}
 use Rattle.grain.specs.Lists.{any}
 use Rattle.grain.specs.Products.{productCount}
+use Rattle.grain.specs.Amounts.{expandedOf}
 use Rattle.grain.proofs.Tests.{and-left, and-right}
 use Rattle.record.specs.declared.Day.{Day}
 use Rattle.record.specs.declared.Event.{Event}
 use Rattle.record.specs.declared.Event.the-variants.{Quiet, Triggered, Held, Reverted, Raised}
-use Rattle.record.specs.Sound.{isExpanded}
-use Rattle.record.specs.End.{Move, isAtExpanded, groupMoves, groupEvent, eventOf, levelAfter, markAfter, isRaised, endProduct, endGroup}
-use Rattle.record.specs.History.{productsOf}
-use Rattle.record.specs.Record.{end, ended, answer, next, nextCommon, nextGroup}
+use Rattle.record.specs.declared.GroupEvent.{GroupEvent}
 use Rattle.record.specs.State.{Product, Group, groupTable, groupCount, groupOf, dayOf, tradeDate}
+use Rattle.record.specs.End.{Move, isAtExpanded, groupMoves, groupEvent, eventOf, levelAfter, markAfter, isRaised, endProduct, endGroup}
+use Rattle.record.specs.Sound.{isExpanded}
+use Rattle.record.specs.Record.{end, ended, answer, next, nextCommon, nextGroup}
+use Rattle.record.specs.History.{productsOf}
 use Rattle.record.proofs.GroupTable.{isMember, members}
 use Rattle.sheets.specs.Sheets.{sheetIn}
 use Rattle.windows.specs.Windows.{windowOf}
@@ -29,7 +30,6 @@ use Rattle.book.proofs.SoundFacts.{day-is}
 use Rattle.book.proofs.Numbers.{value-at, map-twice}
 use Rattle.book.proofs.Views.{shownGroup, groups-are, same-groups, products-view, next-view}
 use Rattle.ending.specs.Lead.{movesOf}
-use Rattle.record.specs.declared.GroupEvent.{GroupEvent}
 use Rattle.ending.specs.Ends.{quiet, eventsOf, eventIn, standingOfEnd, limitAfter, limitOfEnd, windowOfEnd}
 
 -- the moves of some products on the day of the book

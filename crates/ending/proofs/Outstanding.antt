@@ -1,20 +1,20 @@
 -- A sheet is outstanding where not all eight are in.
 use mathlib.Core.Path.{_≡_, refl, _∙_, ap}
-use borrow.Author.Tests.{not-false}
 use mathlib.Core.Bool.{Bool, true, false, not, _||_, cond}
 use mathlib.Core.List.{List, [], _∷_}
 use mathlib.Core.Option.{some, none}
+use borrow.Author.Tests.{not-false}
 use Rattle.grain.specs.Lists.{_and_, every, any}
 use Rattle.record.specs.Choices.{isSome}
-use Rattle.record.specs.State.{Product, Group, groupTable}
 use Rattle.record.specs.Refusals.{first, wrongPhase, sheetOutstanding}
+use Rattle.record.specs.State.{Product, Group, groupTable}
 use Rattle.record.specs.Record.{end, isOutstanding, tests}
+use Rattle.record.proofs.Cleared.{Clear}
 use Rattle.sheets.specs.Sheets.{sheetIn}
 use Rattle.book.specs.declared.Book.{Book}
 use Rattle.book.specs.Book.{todayIn, viewProduct, viewGroups, viewCommon, view}
 use Rattle.book.specs.Numbers.{allProducts}
 use Rattle.book.proofs.Shown.{flat}
-use Rattle.record.proofs.Cleared.{Clear}
 
 module _ {A : Type 0} (f h : A → Bool) (opposite : (x : A) → h x ≡ not (f x)) where
   pub one-not : (l : List A) → any h l ≡ not (every f l)

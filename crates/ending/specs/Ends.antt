@@ -10,12 +10,13 @@ use Rattle.grain.specs.Amounts.{expandedOf}
 use Rattle.grain.specs.declared.spot.TradeDate.{TradeDate}
 use Rattle.record.specs.declared.Event.{Event}
 use Rattle.record.specs.declared.Event.the-variants.{Quiet}
-use Rattle.record.specs.End.{levelAfter, markAfter, eventOf, isRaised, isAtExpanded}
-use Rattle.record.specs.Window.{windowAfter}
-use Rattle.record.specs.Sound.{isExpanded}
-use Rattle.record.specs.History.{productsOf}
-use Rattle.record.specs.Record.{end, Answer, ended, refusal}
+use Rattle.record.specs.declared.GroupEvent.{GroupEvent}
 use Rattle.record.specs.State.{groupCount, groupOf, sheetOr}
+use Rattle.record.specs.Window.{windowAfter}
+use Rattle.record.specs.End.{levelAfter, markAfter, eventOf, isRaised, isAtExpanded}
+use Rattle.record.specs.Sound.{isExpanded}
+use Rattle.record.specs.Record.{end, Answer, ended, refusal}
+use Rattle.record.specs.History.{productsOf}
 use Rattle.sheets.specs.Sheets.{sheetIn}
 use Rattle.windows.specs.Windows.{windowOf}
 use Rattle.book.specs.declared.Limit.{Limit}
@@ -24,7 +25,6 @@ use Rattle.book.specs.declared.Book.{Book}
 use Rattle.book.specs.Book.{noLimit, standingIn, todayIn, levelOf, view}
 use Rattle.book.specs.Calls.{Responds, answerAs}
 use Rattle.ending.specs.Lead.{movesOf}
-use Rattle.record.specs.declared.GroupEvent.{GroupEvent}
 use Rattle.ending.specs.declared.Ended.{Ended}
 use Rattle.ending.specs.declared.collection.Collecting.{Collecting}
 use Rattle.ending.specs.declared.collection.Collecting.the-variants.{Month, Resting}

@@ -1,17 +1,17 @@
 -- The leading contract of a group's products, for the condition of an event.
+use Prim.Native.Nat.{ℕ, _<_, _≤_}
 use mathlib.Core.Path.{_≡_}
 use mathlib.Core.Bool.{Bool, true}
-use mathlib.Core.Option.{Option, some, none}
-use Prim.Native.Nat.{ℕ, _<_, _≤_}
 use mathlib.Core.List.{List, map}
+use mathlib.Core.Option.{Option, some, none}
 use Rattle.grain.specs.Lists.{isAscending}
-use Rattle.grain.specs.declared.spot.TradeDate.{TradeDate}
-use Rattle.grain.specs.Spot.{isSpot}
 use Rattle.grain.specs.Products.{productCount}
+use Rattle.grain.specs.Spot.{isSpot}
+use Rattle.grain.specs.declared.spot.TradeDate.{TradeDate}
 use Rattle.record.specs.declared.Lead.{Lead}
 use Rattle.record.specs.Choices.{concatMap}
-use Rattle.record.specs.End.{Move, productMoves, isTrigger, isHolding, isAtExpanded}
 use Rattle.record.specs.State.{maxContracts}
+use Rattle.record.specs.End.{Move, productMoves, isTrigger, isHolding, isAtExpanded}
 use Rattle.sheets.specs.Sheets.{contractsOf, monthsOf}
 use Rattle.book.specs.declared.Book.{Book}
 use Rattle.book.specs.Book.{todayIn, lastIn, viewProduct}

@@ -5,14 +5,14 @@ use mathlib.Core.Bool.{true, false, cond}
 use mathlib.Core.List.{List, map}
 use mathlib.Core.Option.{some}
 use lib.ListN.{replicate}
+use Rattle.grain.specs.Products.{productCount}
 use Rattle.grain.specs.Check.{spanIn}
 use Rattle.grain.specs.Bare.{verdictNumber, noSpan, spanOr}
 use Rattle.grain.specs.Refusals.{unfitAmount}
 use Rattle.grain.specs.declared.check.Span.{Span}
-use Rattle.grain.specs.Products.{productCount}
+use Rattle.record.specs.State.{groupCount}
 use Rattle.record.specs.Founding.{Start, isFitStart, founded}
 use Rattle.record.specs.Record.{Call, check, Answer, refused, opened, filed, ended, checked, refusal, respond}
-use Rattle.record.specs.State.{groupCount}
 use Rattle.book.specs.Book.{view}
 use Rattle.image.specs.Places.{eventWords}
 use Rattle.image.specs.Words.{flat}

@@ -4,6 +4,7 @@ use mathlib.Core.Bool.{Bool, not, _&&_}
 use lib.Dec.{leb, eqb}
 use Rattle.grain.specs.Products.{tickOf}
 
+-- prices and settlements run from 1 to it
 abbrev pub maxPrice : ℕ
 maxPrice = 1000000
 

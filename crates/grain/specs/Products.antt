@@ -7,6 +7,7 @@ use lib.Dec.{ltb, eqb}
 use lib.ListN.{getD}
 use Rattle.grain.specs.Lists.{isIn}
 
+-- how many products there are
 abbrev pub productCount : ℕ
 productCount = 8
 

@@ -3,6 +3,7 @@ ghost use mathlib.Core.Path.{_≡_};
 ghost use Prim.Native.Nat.{_<_};
 ghost use Rattle.grain.specs.Products.{productCount, isProduct, stepOf, floorOf, firstOf, tickOf, isTraded};
 
+// How many products there are.
 pub const PRODUCT_COUNT: usize = 8;
 
 // The same in the type of a product's number.

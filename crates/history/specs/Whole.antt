@@ -5,11 +5,11 @@ use mathlib.Core.Bool.{true, not}
 use mathlib.Core.List.{List, _++_}
 use mathlib.Core.Option.{some}
 use Rattle.grain.specs.Lists.{every}
+use Rattle.grain.specs.Products.{productCount}
 use Rattle.grain.specs.Check.{spanIn, isWithin}
 use Rattle.grain.specs.declared.check.Span.{Span}
 use Rattle.grain.specs.declared.check.Verdict.{Verdict}
 use Rattle.grain.specs.declared.check.Verdict.the-variants.{Free}
-use Rattle.grain.specs.Products.{productCount}
 use Rattle.record.specs.Refusals.{unsound}
 use Rattle.record.specs.State.{Record, groupOf, groupAt, productIn}
 use Rattle.record.specs.Founding.{Start, founded}

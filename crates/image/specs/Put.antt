@@ -1,13 +1,13 @@
 -- What is left where a book and the answers of calls are written over any words.
+use Prim.Native.Nat.{ℕ, _*_, _<_}
 use mathlib.Core.Path.{_≡_}
 use mathlib.Core.Bool.{true}
 use mathlib.Core.List.{List, _++_}
 use lib.ListN.{length, getD, drop}
-use Prim.Native.Nat.{ℕ, _*_, _<_}
 use Rattle.grain.specs.Products.{productCount}
 use Rattle.grain.specs.Amounts.{windowLength}
-use Rattle.record.specs.Sound.{isSound}
 use Rattle.record.specs.State.{groupCount, maxContracts}
+use Rattle.record.specs.Sound.{isSound}
 use Rattle.sheets.specs.declared.Sheet.{Sheet}
 use Rattle.windows.specs.declared.Windows.{Windows}
 use Rattle.book.specs.declared.Book.{Book}

@@ -7,10 +7,10 @@ use Rattle.grain.specs.Lists.{any}
 use Rattle.grain.specs.Products.{productCount}
 use Rattle.grain.proofs.Every.{any-mapped}
 use Rattle.record.specs.declared.Day.{Day}
-use Rattle.record.specs.Opening.{isTrueDay, isNextSeason, isOtherSeason, isRenewed, openProduct, hasNewLimits, openGroup}
-use Rattle.record.specs.History.{productsOf}
-use Rattle.record.specs.Record.{opening, opened, answer, next, nextCommon, nextGroup}
 use Rattle.record.specs.State.{groupCount, initial, groupTable}
+use Rattle.record.specs.Opening.{isTrueDay, isNextSeason, isOtherSeason, isRenewed, openProduct, hasNewLimits, openGroup}
+use Rattle.record.specs.Record.{opening, opened, answer, next, nextCommon, nextGroup}
+use Rattle.record.specs.History.{productsOf}
 use Rattle.windows.specs.Windows.{windowOf}
 use Rattle.book.specs.declared.Book.{Book}
 use Rattle.book.specs.declared.Standing.{Standing}

@@ -9,10 +9,10 @@ use lib.ListN.{replicate, List·getD-map}
 use Rattle.grain.specs.Products.{productCount}
 use Rattle.grain.proofs.Below.{each}
 use Rattle.record.specs.declared.Day.{Day}
-use Rattle.record.specs.Opening.{hasNewLimits, openGroup}
-use Rattle.record.specs.History.{productsOf}
-use Rattle.record.specs.Record.{opening, refused, opened, refusal, next, nextGroup, respond}
 use Rattle.record.specs.State.{initial, Record, noGroup, groupTable, groupCount, groupAt}
+use Rattle.record.specs.Opening.{hasNewLimits, openGroup}
+use Rattle.record.specs.Record.{opening, refused, opened, refusal, next, nextGroup, respond}
+use Rattle.record.specs.History.{productsOf}
 use Rattle.book.specs.declared.Book.{Book}
 use Rattle.book.specs.Book.{viewCommon, view}
 use Rattle.book.specs.Numbers.{allProducts}

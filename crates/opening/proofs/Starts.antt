@@ -11,8 +11,8 @@ use Rattle.grain.specs.Lists.{any}
 use Rattle.grain.specs.Products.{productCount, isProduct}
 use Rattle.grain.proofs.Scans.{drop-next}
 use Rattle.grain.proofs.Below.{each}
-use Rattle.record.specs.History.{productsOf}
 use Rattle.record.specs.State.{groupTable, groupCount, groupOf}
+use Rattle.record.specs.History.{productsOf}
 use Rattle.record.proofs.GroupTable.{group-small, small-products}
 use Rattle.book.specs.declared.Standing.{Standing}
 use Rattle.book.specs.Book.{noStanding}

@@ -7,8 +7,8 @@ use mathlib.Core.Option.{some}
 use lib.Dec.{eqb}
 use lib.ListN.{length, getD, replicate}
 use Rattle.grain.specs.Lists.{any}
-use Rattle.grain.specs.Amounts.{windowLength, expandedOf, seasonOf}
 use Rattle.grain.specs.Products.{productCount}
+use Rattle.grain.specs.Amounts.{windowLength, expandedOf, seasonOf}
 use Rattle.record.specs.declared.Day.{Day}
 use Rattle.record.specs.Opening.{isTrueDay}
 use Rattle.record.specs.Record.{opening, Answer, opened, refusal}

@@ -3,8 +3,8 @@ use Prim.Native.Nat.{ℕ, _<_}
 use mathlib.Core.Path.{_≡_}
 use mathlib.Core.Bool.{true, false}
 use Rattle.record.specs.declared.Day.{Day}
-use Rattle.record.specs.History.{productsOf}
 use Rattle.record.specs.State.{groupCount, initial, groupAt}
+use Rattle.record.specs.History.{productsOf}
 use Rattle.book.specs.declared.Book.{Book}
 use Rattle.book.specs.Book.{view}
 use Rattle.opening.specs.declared.Opened.{Opened}

@@ -1,8 +1,8 @@
 -- Prices between I and E are within exactly on the expanded level, so for all products of a group or for none.
 use Prim.Native.Nat.{ℕ}
+use mathlib.Core.Path.{_≡_, ap, sym, _∙_}
 use mathlib.Core.Bool.{false}
 use borrow.Author.Tests.{le-leb, lt-leb}
-use mathlib.Core.Path.{_≡_, ap, sym, _∙_}
 use Rattle.grain.specs.Products.{tickOf}
 use Rattle.grain.specs.Check.{verdict, isWithin}
 use Rattle.grain.specs.declared.check.Verdict.{Verdict}

@@ -7,7 +7,7 @@ use native.Mathlib.Omega.{arith}
 use lib.Dec.{ltb, eqb}
 use lib.ListN.{length, List·getD-eq-default}
 use borrow.Author.Tests.{ltb-true, ltb-false, eqb-true, ne-eqb}
-use Rattle.grain.specs.Lists.{_and_, every, any, isIn}
+use Rattle.grain.specs.Lists.{_and_, every, isIn}
 use Rattle.grain.specs.Products.{productCount, isProduct}
 use Rattle.grain.proofs.Tests.{and-left, and-right}
 use Rattle.grain.proofs.Below.{below}

@@ -1,15 +1,18 @@
 -- Chicago Wheat and KC Wheat as one group, each by its own amounts, computed.
 use Prim.Native.Nat.{ℕ}
 use mathlib.Core.Path.{_≡_, refl}
-use mathlib.Core.Bool.{true, false}
+use mathlib.Core.Bool.{false}
 use mathlib.Core.List.{List, [], _∷_, _++_, map}
+use mathlib.Core.Option.{Option, some}
 use lib.ListN.{replicate}
 use Rattle.grain.specs.declared.check.Verdict.the-variants.{Within, Below, Above}
-use Rattle.record.specs.State.{Day, Level, initial, expanded, Record}
+use Rattle.record.specs.State.{Day, Sheet, Level, initial, expanded, Record, groupOf}
 use Rattle.record.specs.Founding.{Start, founded}
 use Rattle.record.specs.End.{Event, Quiet, Triggered, Held, Reverted, Raised}
 use Rattle.record.specs.Record.{Call, opening, end, check, refused, opened, filed, ended, checked}
-use Rattle.record.proofs.Examples.{corn, soybeans, oil, meal, chicagoWheat, kcWheat, oats, rice, wheats, oatsGroup, sep24, dec24, jul25, june3, june4, june5, june6, oneContract, unmoved, fullDay, stateOf, answersAfter, span, limits, lead, Outcome, outcome, in-one-run}
+use Rattle.record.specs.History.{sheetsOf, productsOf}
+use Rattle.record.specs.Theorems.{historyOf}
+use Rattle.record.proofs.Examples.{corn, soybeans, oil, meal, chicagoWheat, kcWheat, oats, rice, wheats, sep24, dec24, jul25, june3, june4, june5, june6, oneContract, unmoved, fullDay, stateOf, answersAfter, span, limits, lead, Outcome, outcome, in-one-run}
 
 -- Chicago Wheat at 240 and 360, KC Wheat at 320 and 480
 abbrev kcAt320 : Start
@@ -28,6 +31,11 @@ wheatDay d chicago kc = fullDay d (oneContract chicagoWheat jul25 chicago ∷ on
 -- what is left of the two where nothing is raised
 abbrev unraised : List Event → Level → Outcome
 unraised es l = record { events = es; level = l; mark = false; limits = limits 240 360 ∷ limits 320 480 ∷ [] }
+
+-- one group, which is what `coupled` asks of the two
+pub oneGroup : groupOf chicagoWheat ≡ groupOf kcWheat
+unfolding stateOf
+oneGroup = refl
 
 -- ---- triggered
 -- KC alone at its I
@@ -159,3 +167,14 @@ pub oatsLeaveWheats :
     ≡ ended (Quiet ∷ Quiet ∷ Quiet ∷ Triggered (lead oats jul25) ∷ Quiet ∷ []) ∷ []
 unfolding stateOf
 oatsLeaveWheats = refl
+
+-- the sheets of both wheats, and of no other product, are those that two lists have to agree on for the group
+abbrev theirSheets : List (List (Option Sheet))
+theirSheets =
+    (some (record { month = jul25; settlement = 4000 } ∷ []) ∷ some (record { month = jul25; settlement = 4320 } ∷ []) ∷ [])
+    ∷ (some (record { month = jul25; settlement = 4000 } ∷ []) ∷ some (record { month = jul25; settlement = 4000 } ∷ []) ∷ [])
+    ∷ []
+
+pub sheetsOfBoth : sheetsOf (productsOf wheats) (historyOf kcAt320 kcMoved) ≡ theirSheets
+unfolding stateOf
+sheetsOfBoth = refl

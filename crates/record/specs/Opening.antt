@@ -6,9 +6,9 @@ use mathlib.Core.Option.{Option, some, none}
 use lib.Dec.{leb, eqb}
 use lib.ListN.{length}
 use Rattle.grain.specs.Lists.{any}
+use Rattle.grain.specs.Amounts.{windowLength, expandedOf, seasonOf}
 use Rattle.grain.specs.Dates.{isDate, daysRemaining, seasonNumber}
 use Rattle.grain.specs.Refusals.{noSuchDate}
-use Rattle.grain.specs.Amounts.{windowLength, expandedOf, seasonOf}
 use Rattle.record.specs.Refusals.{Test, when, wrongPhase, notLater, leftNotSmaller}
 use Rattle.record.specs.State.{Day, initial, Product, Group, Common, monthOf}
 

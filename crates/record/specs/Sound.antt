@@ -10,8 +10,8 @@ use Rattle.grain.specs.Products.{isProduct, isTraded}
 use Rattle.grain.specs.Prices.{isSettlement}
 use Rattle.grain.specs.Amounts.{windowLength, expandedOf, isFitAmount}
 use Rattle.record.specs.Choices.{isSome}
-use Rattle.record.specs.Opening.{isTrueDay}
 use Rattle.record.specs.State.{maxContracts, Contract, Sheet, Level, initial, expanded, Product, Group, Common, Record, dayOf}
+use Rattle.record.specs.Opening.{isTrueDay}
 
 -- 1 to 16 contracts, months as in 7 without the date test, settlements on the standard tick
 unfoldable pub isSoundSheet : ℕ → Option Sheet → Bool

@@ -55,6 +55,7 @@ pub record Record : Type 0 where
 unfoldable pub groupTable : List (List ℕ)
 groupTable = (0 ∷ []) ∷ (1 ∷ 2 ∷ 3 ∷ []) ∷ (4 ∷ 5 ∷ []) ∷ (6 ∷ []) ∷ (7 ∷ []) ∷ []
 
+-- how many groups there are
 abbrev pub groupCount : ℕ
 groupCount = 5
 

@@ -2,22 +2,22 @@
 use Prim.Native.Nat.{ℕ, _<_, _≤_}
 use mathlib.Core.Path.{_≡_}
 use mathlib.Core.Bool.{Bool, true, false, not, _&&_}
+use mathlib.Core.List.{List, [], _∷_, _++_}
 use mathlib.Core.Option.{some}
 use lib.Dec.{leb, eqb}
-use mathlib.Core.List.{List, [], _∷_, _++_}
+use Rattle.grain.specs.Lists.{every, isIn, distance}
 use Rattle.grain.specs.Check.{spanIn, isWithin}
 use Rattle.grain.specs.declared.check.Span.{Span}
 use Rattle.grain.specs.declared.check.Verdict.{Verdict}
 use Rattle.grain.specs.declared.check.Verdict.the-variants.{Free, Within}
-use Rattle.grain.specs.Lists.{every, isIn, distance}
 use Rattle.record.specs.Refusals.{unsound}
 use Rattle.record.specs.State.{Level, Record, dayOf, tradeDate, isSpotOn, groupOf, groupAt, productIn, limitAt, todaysLimit, sheetOr}
 use Rattle.record.specs.Founding.{Start, isFitStart, founded}
 use Rattle.record.specs.Check.{listed}
 use Rattle.record.specs.Sound.{isSound}
 use Rattle.record.specs.Record.{Call, check, Answer, refused, opened, filed, ended, checked, respond, stateAfter, answers}
-use Rattle.record.specs.Replay.{replay}
 use Rattle.record.specs.History.{Entry, kept, productsOf, SameFor}
+use Rattle.record.specs.Replay.{replay}
 
 -- the Record after a list of calls
 abbrev pub after : Start → List Call → Record
@@ -47,6 +47,7 @@ pub record Stands (r : Record) (l : Level) (p : ℕ) : Type 0 where
       todaysLimit (groupAt r (groupOf p)) p
       ≡ limitAt l (productIn (groupAt r (groupOf p)) p .initialLimit) (productIn (groupAt r (groupOf p)) p .expandedLimit)
 
+-- products that all stand on one level
 pub record OneLevel (r : Record) (ps : List ℕ) : Type 0 where
   pub level : Level
   pub stands : (p : ℕ) → isIn p ps ≡ true → Stands r level p

@@ -1,17 +1,17 @@
 -- What a sheet of the book means: the Record's contracts within its count.
+use Prim.Native.Nat.{ℕ, _+_}
 use mathlib.Core.Path.{_≡_}
 use mathlib.Core.Bool.{Bool, cond}
 use mathlib.Core.List.{List, map}
 use mathlib.Core.Option.{Option, some, none}
 use lib.Dec.{leb, eqb}
 use lib.ListN.{length, take, replicate}
-use Prim.Native.Nat.{ℕ, _+_}
 use Rattle.grain.specs.Lists.{_and_, every, isAscending}
 use Rattle.grain.specs.Products.{isTraded}
 use Rattle.grain.specs.Prices.{isSettlement}
 use Rattle.record.specs.declared.Contract.{Contract}
-use Rattle.record.specs.Sheet.{contracts}
 use Rattle.record.specs.State.{maxContracts}
+use Rattle.record.specs.Sheet.{contracts}
 use Rattle.sheets.specs.declared.Sheet.{Sheet}
 use Rattle.sheets.specs.declared.lookup.Listed.{Listed}
 use Rattle.sheets.specs.declared.lookup.Listed.the-variants.{At, Nothing}

@@ -1,11 +1,11 @@
 -- What the windows of a book mean: for each product, the collected settlements within its size.
+use Prim.Native.Nat.{ℕ, _+_, _*_}
 use mathlib.Core.Path.{_≡_}
 use mathlib.Core.Bool.{Bool, false, _&&_, cond}
 use mathlib.Core.List.{List, []}
 use mathlib.Core.Option.{some}
-use lib.ListN.{getD, take, drop, replicate}
-use Prim.Native.Nat.{ℕ, _+_, _*_}
 use lib.Dec.{leb}
+use lib.ListN.{getD, take, drop, replicate}
 use Rattle.grain.specs.Products.{isProduct}
 use Rattle.grain.specs.Amounts.{windowLength}
 use Rattle.record.specs.Window.{collect}
