@@ -10,7 +10,7 @@ use Rattle.grain.specs.Amounts.{expandedOf, isFitAmount}
 use Rattle.grain.proofs.Every.{every-mapped}
 use Rattle.record.specs.Choices.{concatMap, isSome}
 use Rattle.record.specs.State.{Product, Group, groupTable}
-use Rattle.record.specs.Sound.{isSoundSheet, isSoundWindow, isSoundProduct, isExpanded, isSoundGroup, isSoundCommon, everyProduct, isSound}
+use Rattle.record.specs.Sound.{isSoundSheet, isSoundWindow, isSoundProduct, isExpanded, isSoundGroup, isSoundDate, everyProduct, isSound}
 use Rattle.record.specs.History.{productsOf}
 use Rattle.sheets.specs.Sheets.{sheetIn}
 use Rattle.book.specs.declared.Book.{Book}
@@ -84,7 +84,7 @@ groups-shown b =
 -- the tests of a book, one after the other
 pub sound-is : (b : Book)
     → isSound (view b)
-    ≡ (isSoundCommon (record { opened = openedOf (b .day); isOpen = b .«is_open» })
+    ≡ (isSoundDate (openedOf (b .day)) (b .«is_open»)
     and (every (λ g. isMarkSound (standingIn b g)) allGroups and every (λ p. isSoundProduct (viewProduct b p)) allProducts)
     and (b .«is_open» || every (λ p. not (isSome (sheetIn (todayIn b p)))) allProducts)
     and ((isSome (openedOf (b .day)) and every (λ p. isSome (sheetIn (lastIn b p))) allProducts)
@@ -93,7 +93,7 @@ unfolding isSound view viewCommon viewProduct
 sound-is b =
     ap₂ _and_
     (ap₂ _and_
-    (ap (isSoundCommon (viewCommon b) and_) (groups-shown b))
+    (ap (isSoundDate (openedOf (b .day)) (b .«is_open») and_) (groups-shown b))
     (ap (b .«is_open» ||_) (flat b (λ q. not (isSome (q .today))))))
     (ap₂ _||_
     (ap (isSome (openedOf (b .day)) and_) (flat b (λ q. isSome (q .last))))
@@ -102,7 +102,7 @@ sound-is b =
 -- the same, the products' windows apart
 pub sound-tests : (b : Book)
     → isSound (view b)
-    ≡ (isSoundCommon (record { opened = openedOf (b .day); isOpen = b .«is_open» })
+    ≡ (isSoundDate (openedOf (b .day)) (b .«is_open»)
     and (every (λ g. isMarkSound (standingIn b g)) allGroups
     and (every (λ p. areItemsSound p (limitIn b p) (todayIn b p) (lastIn b p)) allProducts and every (isWindowSound (b .windows)) allProducts))
     and (b .«is_open» || every (λ p. not (isSome (sheetIn (todayIn b p)))) allProducts)

@@ -12,9 +12,10 @@ use Rattle.grain.specs.Products.{productCount}
 use Rattle.grain.specs.Prices.{isSettlement}
 use Rattle.grain.proofs.Tests.{&&-left, &&-right, and-left, and-right}
 use Rattle.record.specs.declared.Day.{Day}
-use Rattle.record.specs.State.{dayOf}
+use Rattle.record.specs.Choices.{orElse}
+use Rattle.record.specs.State.{noDay, dayOf}
 use Rattle.record.specs.Opening.{isTrueDay}
-use Rattle.record.specs.Sound.{isSoundSheet, isSoundWindow, isSoundProduct, isSoundCommon, isSound}
+use Rattle.record.specs.Sound.{isSoundSheet, isSoundWindow, isSoundProduct, isSoundDate, isSound}
 use Rattle.sheets.specs.declared.Sheet.{Sheet}
 use Rattle.sheets.specs.Sheets.{contractsOf, sheetIn, monthsOf}
 use Rattle.windows.specs.declared.Windows.{Windows}
@@ -75,8 +76,8 @@ facts b p t =
     record { short = and-left _ _ w; window = and-right _ _ w; today = and-right _ _ t₅; last = and-right _ _ t }
 
 module _ (b : Book) (sound : isSound (view b) ≡ true) where
-  common-sound : isSoundCommon (record { opened = openedOf (b .day); isOpen = b .«is_open» }) ≡ true
-  common-sound = and-left _ _ (and-left _ _ (and-left _ _ (sym (sound-is b) ∙ sound)))
+  date-sound : isSoundDate (openedOf (b .day)) (b .«is_open») ≡ true
+  date-sound = and-left _ _ (and-left _ _ (and-left _ _ (sym (sound-is b) ∙ sound)))
 
   module _ (p : ℕ) (l : p < productCount) where
     pub product-sound : isSoundProduct (viewProduct b p) ≡ true
@@ -101,19 +102,19 @@ module _ (b : Book) (sound : isSound (view b) ≡ true) where
     today-ascending = sheet-ascending p (todayIn b p) (facts b p product-sound .today)
 
   pub open-day : b .«is_open» ≡ true → openedOf (b .day) ≡ some (b .day)
-  unfolding isSoundCommon
-  open-day e = go (isNoDay (b .day)) common-sound
+  unfolding isSoundDate
+  open-day e = go (isNoDay (b .day)) date-sound
     where
-      go : (n : Bool) → isSoundCommon (record { opened = cond n none (some (b .day)); isOpen = b .«is_open» }) ≡ true
+      go : (n : Bool) → isSoundDate (cond n none (some (b .day))) (b .«is_open») ≡ true
           → cond n none (some (b .day)) ≡ some (b .day)
       go true t = let z : not (b .«is_open») ≡ true = t in cc
       go false t = refl
 
   pub true-day : (d : Day) → openedOf (b .day) ≡ some d → isTrueDay (b .day) ≡ true
-  unfolding isSoundCommon
-  true-day d e = go (isNoDay (b .day)) common-sound e
+  unfolding isSoundDate
+  true-day d e = go (isNoDay (b .day)) date-sound e
     where
-      go : (n : Bool) → isSoundCommon (record { opened = cond n none (some (b .day)); isOpen = b .«is_open» }) ≡ true
+      go : (n : Bool) → isSoundDate (cond n none (some (b .day))) (b .«is_open») ≡ true
           → cond n none (some (b .day)) ≡ some d → isTrueDay (b .day) ≡ true
       go true t e = let z : _≡_ {A = Option Day} none (some d) = e in cc
       go false t e = t
@@ -130,7 +131,7 @@ pub day-is : (b : Book) → dayOf (viewCommon b) ≡ b .day
 unfolding viewCommon
 day-is b = go (isNoDay (b .day)) refl
   where
-    go : (n : Bool) → isNoDay (b .day) ≡ n → dayOf (record { opened = cond n none (some (b .day)); isOpen = b .«is_open» }) ≡ b .day
+    go : (n : Bool) → isNoDay (b .day) ≡ n → orElse (cond n none (some (b .day))) noDay ≡ b .day
     go true e = zeros (b .day .year) (b .day .month) (b .day .day) (b .day .left) e
     go false e = refl
 

@@ -6,13 +6,13 @@ use Rattle.grain.specs.Products.{floors}
 use Rattle.grain.specs.Amounts.{isFit}
 use Rattle.record.specs.State.{groupTable}
 use Rattle.record.specs.Refusals.{unsound}
-use Rattle.record.specs.Sound.{isSoundProduct, isSoundGroup, isSoundCommon, isSound}
+use Rattle.record.specs.Sound.{isSoundProduct, isSoundGroup, isSoundDate, isSound}
 use Rattle.record.specs.Record.{Call, refused, refusal, respond}
 use Rattle.book.specs.Book.{viewProduct, viewGroup, viewCommon, view}
 use Rattle.book.specs.Founding.{noBook}
 
 pub no-book-unsound : isSound (view noBook) ≡ false
-unfolding isSound isSoundCommon isSoundGroup isSoundProduct isFit floors every _and_ view viewCommon viewGroup viewProduct groupTable noBook
+unfolding isSound isSoundDate isSoundGroup isSoundProduct isFit floors every _and_ view viewCommon viewGroup viewProduct groupTable noBook
 no-book-unsound = refl
 
 pub no-book-refuses : (c : Call) → respond (view noBook) c ≡ record { state = view noBook; answer = refused unsound }

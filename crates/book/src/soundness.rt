@@ -6,7 +6,7 @@ ghost use lib.ListN.{getD};
 ghost use Rattle.grain.specs.Lists.{_and_, every};
 ghost use Rattle.grain.specs.Amounts.{expandedOf, isFitAmount};
 ghost use Rattle.record.specs.Opening.{isTrueDay};
-ghost use Rattle.record.specs.Sound.{isSoundCommon, isSound};
+ghost use Rattle.record.specs.Sound.{isSoundDate, isSound};
 ghost use Rattle.book.specs.Book.{noStanding, limitIn, todayIn, lastIn, isNoDay, openedOf, view};
 ghost use Rattle.book.specs.Numbers.{allProducts, allGroups};
 ghost use Rattle.book.specs.Soundness.{areAllIn, areAllMissing, areLastSound, isMarkSound, areItemsSound, isWindowSound};
@@ -53,7 +53,7 @@ pub fn is_true_day(d: Day) -> bool
 
 // A date where a day is open.
 fn is_sound_date(d: Day, is_open: bool) -> bool
-    ensures { λ r. ⌜ r ≡ isSoundCommon (record { opened = openedOf d; isOpen = «is_open» }) ⌝ }
+    ensures { λ r. ⌜ r ≡ isSoundDate (openedOf d) «is_open» ⌝ }
 {
     if is_no_day(d) {
         return !is_open;

@@ -13,14 +13,14 @@ use Rattle.grain.specs.Spot.{isSpot}
 use Rattle.grain.specs.Check.{spanBy, verdict}
 use Rattle.grain.specs.declared.check.Span.{Span}
 use Rattle.record.specs.Choices.{concatMap}
-use Rattle.record.specs.State.{Day, Level, Product, Group, Record, groupTable, groupAt}
+use Rattle.record.specs.State.{Day, Level, Product, Group, Record, withProducts, withWindow, groupTable, groupAt}
 use Rattle.record.specs.Founding.{Start, foundProduct, foundGroup, founded, isFitStart}
 use Rattle.record.specs.Opening.{isTrueDay, openingTests, isRenewed, openProduct, hasNewLimits, openGroup}
 use Rattle.record.specs.Sheet.{isMisshapen, hasBadMonth, hasBadSettlement, lacksContract, isBeyond, sheetTests, fileProduct, fileGroup}
 use Rattle.record.specs.Window.{collectedMonth, windowAfter}
 use Rattle.record.specs.End.{Event, Quiet, Lead, productMoves, groupMoves, eventOf, groupEvent, endProduct, endGroup}
 use Rattle.record.specs.Check.{termsTests, orderTests, judged}
-use Rattle.record.specs.Sound.{isSoundSheet, isSoundWindow, isSoundProduct, isSoundGroup, isSoundCommon, isSound}
+use Rattle.record.specs.Sound.{isSoundSheet, isSoundWindow, isSoundProduct, isSoundGroup, isSoundDate, isSound}
 use Rattle.record.specs.Record.{Call, opening, sheet, end, Answer, refused, opened, filed, ended, checked, isOutstanding, tests, refusal, answer, nextCommon, nextGroup, next, Result, respond, stateAfter, answers}
 use Rattle.record.specs.History.{keptFrom}
 
@@ -136,26 +136,12 @@ cornAt200 = record { limits = 200 ∷ 400 ∷ 200 ∷ 200 ∷ 240 ∷ 240 ∷ 16
 abbrev pub aBook : Record
 aBook = founded cornAt200
 
-abbrev withWindow : (ℕ → List ℕ) → Product → Product
-withWindow windows q =
-    record {
-      number = q .number;
-      initialLimit = q .initialLimit;
-      expandedLimit = q .expandedLimit;
-      window = windows (q .number);
-      today = q .today;
-      last = q .last;
-    }
+abbrev collecting : (ℕ → List ℕ) → Group → Group
+collecting windows g = withProducts (map (λ q. withWindow (windows (q .number)) q) (g .products)) g
 
 -- the same book with these windows
 abbrev pub aBookWith : (ℕ → List ℕ) → Record
-aBookWith windows =
-    record {
-      common = aBook .common;
-      groups =
-          map (λ g. record { level = g .level; mark = g .mark; products = map (withWindow windows) (g .products) })
-          (aBook .groups);
-    }
+aBookWith windows = record { common = aBook .common; groups = map (collecting windows) (aBook .groups) }
 
 -- a settlement of each product
 abbrev usualSettlement : ℕ → ℕ
@@ -224,7 +210,7 @@ daysOf2025 calls (suc n) month day = calls (of2025 month day) ++ daysOf2025 call
 -- ---- what is computed
 -- The Record after a list of calls. Its line opens every definition of the Record, so that a vector names only this one.
 unfoldable pub stateOf : Record → List Call → Record
-unfolding _and_ every isAscending sum steps floors firsts standardTicks miniTicks grainMonths soybeanMonths oilAndMealMonths riceMonths monthsTraded tickOf isTraded isOnTick expandedBy seasonBy isFit isLeap monthLength isDate contractMonth seasonNumber daysRemaining isSpot spanBy verdict groupTable foundProduct foundGroup founded isFitStart isTrueDay openingTests isRenewed openProduct hasNewLimits openGroup isMisshapen hasBadMonth hasBadSettlement lacksContract isBeyond sheetTests fileProduct fileGroup collectedMonth windowAfter productMoves groupMoves eventOf groupEvent endProduct endGroup termsTests orderTests judged isSoundSheet isSoundWindow isSoundProduct isSoundGroup isSoundCommon isSound isOutstanding tests refusal answer nextCommon nextGroup next respond stateAfter answers keptFrom
+unfolding _and_ every isAscending sum steps floors firsts standardTicks miniTicks grainMonths soybeanMonths oilAndMealMonths riceMonths monthsTraded tickOf isTraded isOnTick expandedBy seasonBy isFit isLeap monthLength isDate contractMonth seasonNumber daysRemaining isSpot spanBy verdict groupTable foundProduct foundGroup founded isFitStart isTrueDay openingTests isRenewed openProduct hasNewLimits openGroup isMisshapen hasBadMonth hasBadSettlement lacksContract isBeyond sheetTests fileProduct fileGroup collectedMonth windowAfter productMoves groupMoves eventOf groupEvent endProduct endGroup termsTests orderTests judged isSoundSheet isSoundWindow isSoundProduct isSoundGroup isSoundDate isSound isOutstanding tests refusal answer nextCommon nextGroup next respond stateAfter answers keptFrom
 stateOf r cs = stateAfter r cs
 
 -- the answers to further calls after a list of calls

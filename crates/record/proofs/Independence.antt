@@ -4,13 +4,13 @@ use mathlib.Core.Path.{_≡_, refl, ap, ap₂, _∙_}
 use mathlib.Core.Bool.{Bool, true, false}
 use mathlib.Core.List.{List, [], _∷_, map}
 use lib.ListN.{getD}
-use Rattle.record.specs.State.{Day, Product, Group, Common, Record, noGroup, groupTable, groupAt}
+use Rattle.record.specs.State.{Day, Product, Group, Common, withProducts, noGroup, groupTable, groupAt}
 use Rattle.record.specs.Founding.{Start, foundProduct, foundGroup, founded}
 use Rattle.record.specs.Opening.{openGroup, openProduct}
 use Rattle.record.specs.End.{endGroup, endProduct}
 use Rattle.record.specs.Record.{Call}
-use Rattle.record.specs.History.{ProductSheet, KeptDay, Entry, aDay, sheetAmong, openingsAndEnds, sheetsOf, productsOf, SameFor}
-use Rattle.record.specs.Replay.{commonAfter, productWith, groupWith, endedIf, groupAfter, replay}
+use Rattle.record.specs.History.{ProductSheet, Entry, aDay, sheetAmong, milestone, openingsAndEnds, sheetsOn, sheetsOf, productsOf, SameFor}
+use Rattle.record.specs.Replay.{productWith, groupWith, endedIf, commonBy, groupBy, commonAfter, groupAfter, replay}
 use Rattle.record.specs.Theorems.{after, historyOf}
 use Rattle.record.proofs.Maps.{map-map, map-same}
 use Rattle.record.proofs.Replayed.{replayed}
@@ -27,19 +27,18 @@ with-numbers : (fs : List ProductSheet) (g : Group) → numbers (groupWith fs g)
 unfolding groupWith productWith
 with-numbers fs g = map-map _ _ _ (λ q. refl) (g .products)
 
-end-numbers : (b : Bool) (d : Day) (g : Group) → numbers (endedIf b d g) ≡ numbers g
+end-numbers : (b : Bool) (c : Common) (g : Group) → numbers (endedIf b c g) ≡ numbers g
 unfolding endGroup endProduct
-end-numbers true d g = map-map _ _ _ (λ q. refl) (g .products)
-end-numbers false d g = refl
+end-numbers true c g = map-map _ _ _ (λ q. refl) (g .products)
+end-numbers false c g = refl
+
+entry-numbers : (e : Entry) (c : Common) (g : Group) → numbers (groupBy e c g) ≡ numbers g
+entry-numbers (aDay k) c g = end-numbers (k .isEnded) _ _ ∙ with-numbers (k .sheets) _ ∙ open-numbers c (k .day) g
 
 after-numbers : (es : List Entry) (c : Common) (g : Group) → numbers (groupAfter es c g) ≡ numbers g
 unfolding groupAfter
 after-numbers [] c g = refl
-after-numbers (aDay k ∷ es) c g =
-    end-numbers (k .isEnded) (k .day) _
-    ∙ with-numbers (k .sheets) _
-    ∙ open-numbers (commonAfter es c) (k .day) _
-    ∙ after-numbers es c g
+after-numbers (e ∷ es) c g = entry-numbers e (commonAfter es c) _ ∙ after-numbers es c g
 
 -- ---- the same sheets of its products, the same group
 with-list : (s t : List ProductSheet) (qs : List Product)
@@ -56,42 +55,45 @@ with-same : (s t : List ProductSheet) (ps : List ℕ) (g : Group) → numbers g 
     → map (sheetAmong s) ps ≡ map (sheetAmong t) ps → groupWith s g ≡ groupWith t g
 unfolding groupWith
 with-same s t ps g n e =
-    ap (λ (l : List Product). record { level = g .level; mark = g .mark; products = l })
-    (with-list s t (g .products) (rw n e))
+    ap (λ qs. withProducts qs g) (with-list s t (g .products) (rw n e))
 
-common-same : (c : Common) (es fs : List Entry) → openingsAndEnds es ≡ openingsAndEnds fs → commonAfter es c ≡ commonAfter fs c
-common-same c [] [] e = refl
-common-same c [] (aDay l ∷ fs) e = cc
-common-same c (aDay k ∷ es) [] e = cc
-common-same c (aDay k ∷ es) (aDay l ∷ fs) e =
+-- ---- the same milestone, and the same sheets of its products: the same after the entry
+entry-common : (e f : Entry) (c : Common) → milestone e ≡ milestone f → commonBy e c ≡ commonBy f c
+entry-common (aDay k) (aDay l) c m =
     let d : k .day ≡ l .day = cc in
     let b : k .isEnded ≡ l .isEnded = cc in
     rw (d, b)
 
-abbrev daily : Common → KeptDay → Group → Group
-daily c k g = endedIf (k .isEnded) (k .day) (groupWith (k .sheets) (openGroup c (k .day) g))
-
-day-same : (ps : List ℕ) (k l : KeptDay) (c : Common) (g : Group) → numbers g ≡ ps
-    → k .day ≡ l .day → k .isEnded ≡ l .isEnded → map (sheetAmong (k .sheets)) ps ≡ map (sheetAmong (l .sheets)) ps
-    → daily c k g ≡ daily c l g
-day-same ps k l c g n d b s =
+entry-group : (ps : List ℕ) (e f : Entry) (c : Common) (g : Group) → numbers g ≡ ps
+    → milestone e ≡ milestone f → sheetsOn ps e ≡ sheetsOn ps f → groupBy e c g ≡ groupBy f c g
+entry-group ps (aDay k) (aDay l) c g n m s =
+    let d : k .day ≡ l .day = cc in
+    let b : k .isEnded ≡ l .isEnded = cc in
     rw (d, b, with-same (k .sheets) (l .sheets) ps (openGroup c (l .day) g) (open-numbers c (l .day) g ∙ n) s)
+
+common-same : (c : Common) (es fs : List Entry) → openingsAndEnds es ≡ openingsAndEnds fs → commonAfter es c ≡ commonAfter fs c
+common-same c [] [] m = refl
+common-same c [] (f ∷ fs) m = cc
+common-same c (e ∷ es) [] m = cc
+common-same c (e ∷ es) (f ∷ fs) m =
+    let first : milestone e ≡ milestone f = cc in
+    let rest : openingsAndEnds es ≡ openingsAndEnds fs = cc in
+    entry-common e f (commonAfter es c) first ∙ ap (commonBy f) (common-same c es fs rest)
 
 module _ (ps : List ℕ) (c : Common) (g : Group) (n : numbers g ≡ ps) where
   group-same : (es fs : List Entry) → openingsAndEnds es ≡ openingsAndEnds fs → sheetsOf ps es ≡ sheetsOf ps fs
       → groupAfter es c g ≡ groupAfter fs c g
   unfolding groupAfter
-  group-same [] [] e f = refl
-  group-same [] (aDay l ∷ fs) e f = cc
-  group-same (aDay k ∷ es) [] e f = cc
-  group-same (aDay k ∷ es) (aDay l ∷ fs) e f =
-      let e′ : openingsAndEnds es ≡ openingsAndEnds fs = cc in
-      let f′ : sheetsOf ps es ≡ sheetsOf ps fs = cc in
-      let d : k .day ≡ l .day = cc in
-      let b : k .isEnded ≡ l .isEnded = cc in
-      let s : map (sheetAmong (k .sheets)) ps ≡ map (sheetAmong (l .sheets)) ps = cc in
-      rw (common-same c es fs e′, group-same es fs e′ f′)
-      (day-same ps k l (commonAfter fs c) (groupAfter fs c g) (after-numbers fs c g ∙ n) d b s)
+  group-same [] [] m s = refl
+  group-same [] (f ∷ fs) m s = cc
+  group-same (e ∷ es) [] m s = cc
+  group-same (e ∷ es) (f ∷ fs) m s =
+      let m₁ : milestone e ≡ milestone f = cc in
+      let m₂ : openingsAndEnds es ≡ openingsAndEnds fs = cc in
+      let s₁ : sheetsOn ps e ≡ sheetsOn ps f = cc in
+      let s₂ : sheetsOf ps es ≡ sheetsOf ps fs = cc in
+      rw (common-same c es fs m₂, group-same es fs m₂ s₂)
+      (entry-group ps e f (commonAfter fs c) (groupAfter fs c g) (after-numbers fs c g ∙ n) m₁ s₁)
 
 -- ---- of the whole Record, one group
 module _ (f h : Group → Group) where

@@ -6,7 +6,7 @@ use mathlib.Core.List.{List, [], _∷_}
 use mathlib.Core.Option.{Option, some, none}
 use lib.Dec.{eqb}
 use borrow.Author.Tests.{not-false}
-use Rattle.record.specs.State.{Day, Sheet, Product, Group, Common, Record}
+use Rattle.record.specs.State.{Day, Sheet, Product, Group, Common, Record, withOpened, withIsOpen, withProducts, withToday}
 use Rattle.record.specs.Founding.{Start, founded}
 use Rattle.record.specs.Opening.{openGroup}
 use Rattle.record.specs.Sheet.{contracts, fileProduct, fileGroup}
@@ -19,13 +19,10 @@ use Rattle.record.proofs.Checks.{check-same}
 use Rattle.record.proofs.Cleared.{accepted-clear}
 use Rattle.record.proofs.Kept.{addUnless, historyFrom, history-kept}
 
-abbrev withProducts : Group → List Product → Group
-withProducts g l = record { level = g .level; mark = g .mark; products = l }
-
 -- no sheet: nothing changes
 with-none : (g : Group) → groupWith [] g ≡ g
 unfolding groupWith productWith
-with-none g = ap (withProducts g) (map-same (productWith []) (λ q. refl) (g .products))
+with-none g = ap (λ qs. withProducts qs g) (map-same (productWith []) (λ q. refl) (g .products))
 
 over-cond : (b : Bool) (s : Sheet) (o w : Option Sheet) → cond b (some s) (over o w) ≡ over (cond b (some s) o) w
 over-cond true s o w = refl
@@ -36,14 +33,13 @@ module _ (f : ProductSheet) (fs : List ProductSheet) where
   filed-one : (q : Product) → fileProduct (f .product) (f .sheet) (productWith fs q) ≡ productWith (f ∷ fs) q
   unfolding productWith fileProduct
   filed-one q =
-      ap
-      (λ (o : Option Sheet). record { number = q .number; initialLimit = q .initialLimit; expandedLimit = q .expandedLimit; window = q .window; today = o; last = q .last })
+      ap (λ o. withToday o q)
       (over-cond (eqb (q .number) (f .product)) (f .sheet) (sheetAmong fs (q .number)) (q .today))
 
   filed-more : (g : Group) → fileGroup (f .product) (f .sheet) (groupWith fs g) ≡ groupWith (f ∷ fs) g
   unfolding groupWith fileGroup
   filed-more g =
-      ap (withProducts g)
+      ap (λ qs. withProducts qs g)
       (map-map (fileProduct (f .product) (f .sheet)) (productWith fs) (productWith (f ∷ fs)) filed-one (g .products))
 
 abbrev withGroups : Common → List Group → Record
@@ -65,7 +61,7 @@ module _ (r₀ : Record) where
   unfolding next nextCommon nextGroup replay groupAfter
   sheet-on p ms ss d fs true es e = cc
   sheet-on p ms ss d fs false es e =
-      ap (withGroups (record { opened = some d; isOpen = true }))
+      ap (withGroups (withOpened (some d) (withIsOpen true (commonAfter es (r₀ .common)))))
       (map-map _ _ _ (λ g. filed-more (record { product = p; sheet = contracts ms ss }) _ _) (r₀ .groups))
 
   end-on : (d : Day) (fs : List ProductSheet) (b : Bool) (es : List Entry) → not b ≡ true
@@ -74,22 +70,23 @@ module _ (r₀ : Record) where
   unfolding next nextCommon nextGroup replay groupAfter
   end-on d fs true es e = cc
   end-on d fs false es e =
-      ap (withGroups (record { opened = some d; isOpen = false })) (map-map _ _ _ (λ g. refl) (r₀ .groups))
+      ap (withGroups (withOpened (some d) (withIsOpen false (commonAfter es (r₀ .common)))))
+      (map-map _ _ _ (λ g. refl) (r₀ .groups))
 
--- a Record with no day behind it
+-- a Record with no day open
 unfoldable pub IsFresh : Record → Type 0
-IsFresh r = r .common ≡ record { opened = none; isOpen = false }
+IsFresh r = r .common .isOpen ≡ false
 
 module _ (r₀ : Record) (f : IsFresh r₀) where
   accept-sheet : (p : ℕ) (ms ss : List ℕ) (es : List Entry) → commonAfter es (r₀ .common) .isOpen ≡ true
       → next (replay es r₀) (sheet p ms ss) ≡ replay (add (sheet p ms ss) es) r₀
   unfolding IsFresh
-  accept-sheet p ms ss [] o = let z = ap (λ (c : Common). c .isOpen) f in cc
+  accept-sheet p ms ss [] o = cc
   accept-sheet p ms ss (aDay k ∷ es) o = sheet-on r₀ p ms ss (k .day) (k .sheets) (k .isEnded) es o
 
   accept-end : (es : List Entry) → commonAfter es (r₀ .common) .isOpen ≡ true → next (replay es r₀) end ≡ replay (add end es) r₀
   unfolding IsFresh
-  accept-end [] o = let z = ap (λ (c : Common). c .isOpen) f in cc
+  accept-end [] o = cc
   accept-end (aDay k ∷ es) o = end-on r₀ (k .day) (k .sheets) (k .isEnded) es o
 
   accepted : (c : Call) (es : List Entry) → refusal (replay es r₀) c ≡ none → next (replay es r₀) c ≡ replay (add c es) r₀

@@ -5,7 +5,7 @@ use mathlib.Core.Bool.{true, false, cond}
 use mathlib.Core.List.{List, [], _∷_, _++_, map}
 use lib.Dec.{eqb}
 use Rattle.grain.specs.declared.check.Verdict.the-variants.{Within, Above}
-use Rattle.record.specs.State.{Day, Record, initial, expanded}
+use Rattle.record.specs.State.{Day, Record, initial, expanded, withLevel, withMark}
 use Rattle.record.specs.End.{Event, Quiet, Triggered, Held, Raised}
 use Rattle.record.specs.Record.{Call, opening, check, refused, opened, filed, checked}
 use Rattle.record.proofs.Examples.{corn, soybeans, oil, meal, chicagoWheat, kcWheat, oats, rice, cornGroup, complex, wheats, oatsGroup, jul25, on, collectedBy, collected, oneContract, fullDay, stateOf, answersAfter, span, Limits, limits, lead, Outcome, outcome, in-one-run}
@@ -130,7 +130,7 @@ abbrev allMarked : Record
 allMarked =
     record {
       common = collected 45 .common;
-      groups = map (λ g. record { level = expanded; mark = true; products = g .products }) (collected 45 .groups);
+      groups = map (λ g. withLevel expanded (withMark true g)) (collected 45 .groups);
     }
 
 -- 45, and the first opening

@@ -13,7 +13,7 @@ use Rattle.record.specs.State.{Day, Sheet, Product, Group, Common, Recor
 use Rattle.record.specs.Opening.{isTrueDay, openingTests, openProduct, openGroup}
 use Rattle.record.specs.Sheet.{contracts, sheetTests, fileProduct, fileGroup}
 use Rattle.record.specs.End.{groupEvent, endProduct, endGroup}
-use Rattle.record.specs.Sound.{isSoundSheet, isSoundProduct, isSoundGroup, isSoundCommon, everyProduct, hasNoSheetIn, hasLast, hasNoLast, isSound}
+use Rattle.record.specs.Sound.{isSoundSheet, isSoundProduct, isSoundGroup, isSoundDate, everyProduct, hasNoSheetIn, hasLast, hasNoLast, isSound}
 use Rattle.record.specs.Record.{Call, opening, sheet, end, check, isOutstanding, tests, nextCommon, nextGroup, next}
 use Rattle.record.proofs.Checks.{check-same}
 use Rattle.record.proofs.Cleared.{Clear}
@@ -22,7 +22,7 @@ use Rattle.record.proofs.SoundGroups.{open-group, file-group, end-group
 
 -- what soundness says of the Record, test by test
 pub record Facts (r : Record) : Type 0 where
-  pub common : isSoundCommon (r .common) ≡ true
+  pub date : isSoundDate (r .common .opened) (r .common .isOpen) ≡ true
   pub groups : every isSoundGroup (r .groups) ≡ true
   pub resting : r .common .isOpen || everyProduct hasNoSheetIn (r .groups) ≡ true
   pub lasts : (isSome (r .common .opened) and everyProduct hasLast (r .groups)) || everyProduct hasNoLast (r .groups) ≡ true
@@ -32,11 +32,11 @@ unfolding isSound
 facts r t =
     let t₃ = and-left _ _ t in
     let t₂ = and-left _ _ t₃ in
-    record { common = and-left _ _ t₂; groups = and-right _ _ t₂; resting = and-right _ _ t₃; lasts = and-right _ _ t }
+    record { date = and-left _ _ t₂; groups = and-right _ _ t₂; resting = and-right _ _ t₃; lasts = and-right _ _ t }
 
 pub facts-sound : (r : Record) → Facts r → isSound r ≡ true
 unfolding isSound
-facts-sound r f = both _ _ (both _ _ (both _ _ (f .common) (f .groups)) (f .resting)) (f .lasts)
+facts-sound r f = both _ _ (both _ _ (both _ _ (f .date) (f .groups)) (f .resting)) (f .lasts)
 
 -- a change of the products that leaves their last ended sheets
 module _ (k : Group → Group) (m : Product → Product) (changes : (g : Group) → k g .products ≡ map m (g .products))
@@ -55,12 +55,12 @@ dated false true c t = refl
 dated false false c t = t
 
 opened-sound : (r : Record) (d : Day) → isTrueDay d ≡ true → Facts r → Facts (next r (opening d))
-unfolding next nextCommon nextGroup openGroup openProduct isSoundCommon
+unfolding next nextCommon nextGroup openGroup openProduct isSoundDate
 opened-sound r d t f =
     let c = r .common in
     let left = lasts-left (openGroup c d) (openProduct c d) (λ g. refl) (λ q. refl) in
     record {
-      common = t;
+      date = t;
       groups = every-map _ (openGroup c d) isSoundGroup (open-group c d) (r .groups) (f .groups);
       resting = refl;
       lasts =
@@ -74,22 +74,21 @@ filed-sound r p ms ss o u f =
     let s = contracts ms ss in
     let left = lasts-left (fileGroup p s) (fileProduct p s) (λ g. refl) (λ q. refl) in
     record {
-      common = f .common;
+      date = f .date;
       groups = every-map _ (fileGroup p s) isSoundGroup (file-group p s u) (r .groups) (f .groups);
       resting = rw o;
       lasts = rw (left isSome (r .groups), left (λ o. not (isSome o)) (r .groups)) (f .lasts);
     }
 
 -- an open day was opened, and to close it needs nothing
-pub open-opened : (o : Option Day) (b : Bool) → isSoundCommon (record { opened = o; isOpen = b }) ≡ true → b ≡ true → isSome o ≡ true
-unfolding isSoundCommon
+pub open-opened : (o : Option Day) (b : Bool) → isSoundDate o b ≡ true → b ≡ true → isSome o ≡ true
+unfolding isSoundDate
 open-opened none true t e = t
 open-opened none false t e = e
 open-opened (some d) b t e = refl
 
-closed : (o : Option Day) (b : Bool) → isSoundCommon (record { opened = o; isOpen = b }) ≡ true
-    → isSoundCommon (record { opened = o; isOpen = false }) ≡ true
-unfolding isSoundCommon
+closed : (o : Option Day) (b : Bool) → isSoundDate o b ≡ true → isSoundDate o false ≡ true
+unfolding isSoundDate
 closed none b t = refl
 closed (some d) b t = t
 
@@ -110,10 +109,10 @@ ended-sound r o n f =
     let c = r .common in
     let lasts : everyProduct hasLast (map (endGroup c) (r .groups)) ≡ true = every-unless _ (endGroup c) _ (end-lasts c) (r .groups) n in
     record {
-      common = closed (c .opened) (c .isOpen) (f .common);
+      date = closed (c .opened) (c .isOpen) (f .date);
       groups = every-map _ (endGroup c) isSoundGroup (end-group c) (r .groups) (f .groups);
       resting = every-map _ (endGroup c) _ (end-rests c) (r .groups) (f .groups);
-      lasts = rw (both _ _ (open-opened (c .opened) (c .isOpen) (f .common) o) lasts);
+      lasts = rw (both _ _ (open-opened (c .opened) (c .isOpen) (f .date) o) lasts);
     }
 
 -- each test is read by its place in the call's order

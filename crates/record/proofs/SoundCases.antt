@@ -6,17 +6,17 @@ use mathlib.Core.List.{List, [], _∷_}
 use mathlib.Core.Option.{Option, some, none}
 use lib.ListN.{replicate, drop}
 use Rattle.grain.specs.Dates.{contractMonth}
-use Rattle.record.specs.State.{Day, Sheet, Level, initial, expanded, Product, Common, Record}
+use Rattle.record.specs.State.{Day, Sheet, Level, initial, expanded, Product, Common, Record, withOpened, withIsOpen}
 use Rattle.record.specs.Sheet.{contracts}
 use Rattle.record.specs.Sound.{isSound}
 use Rattle.record.specs.Record.{opening, end, check, refused}
 use Rattle.record.proofs.Examples.{corn, jul24, aug24, sep24, june3, june4, on, aBook, unmoved, quietDay, stateOf, answersAfter}
 
 abbrev noDate : Common
-noDate = record { opened = none; isOpen = false }
+noDate = aBook .common
 
 abbrev dated : Day → Bool → Common
-dated d isOpen = record { opened = some d; isOpen = isOpen }
+dated d isOpen = withOpened (some d) (withIsOpen isOpen noDate)
 
 abbrev cornWith : ℕ → ℕ → List ℕ → Option Sheet → Option Sheet → Product
 cornWith i e window today last =
@@ -112,7 +112,7 @@ offTheTick = refl
 
 -- a day open with no date
 pub openWithoutDate :
-    isSound (book (record { opened = none; isOpen = true }) initial false (cornWith 200 320 [] none none)) ≡ false
+    isSound (book (withIsOpen true noDate) initial false (cornWith 200 320 [] none none)) ≡ false
 unfolding stateOf
 openWithoutDate = refl
 

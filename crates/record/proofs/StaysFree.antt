@@ -16,7 +16,7 @@ use Rattle.record.specs.State.{Day, Record, noDay, dayOf, monthOf, trade
 use Rattle.record.specs.Founding.{Start, isFitStart, founded}
 use Rattle.record.specs.Opening.{isTrueDay, dateNumber, isNotLater, isSameMonth, isLeftNotSmaller, openingTests}
 use Rattle.record.specs.Check.{judged}
-use Rattle.record.specs.Sound.{isSoundCommon, isSound}
+use Rattle.record.specs.Sound.{isSoundDate, isSound}
 use Rattle.record.specs.Record.{Call, opening, sheet, end, check, checked, tests, refusal, nextCommon, next, stateBy, respond, stateAfter}
 use Rattle.record.specs.Theorems.{after, checkAfter}
 use Rattle.record.proofs.TrueDays.{valid, day-small}
@@ -56,9 +56,9 @@ spotSince none month = false
 spotSince (some d) month = isSpotOn d month
 
 module _ (month : ℕ) where
-  opened-spot : (o : Option Day) (b : Bool) (d : Day) → isSoundCommon (record { opened = o; isOpen = b }) ≡ true → isTrueDay d ≡ true
+  opened-spot : (o : Option Day) (b : Bool) (d : Day) → isSoundDate o b ≡ true → isTrueDay d ≡ true
       → isNotLater o d ≡ false → isLeftNotSmaller o d ≡ false → spotSince o month ≡ true → isSpotOn d month ≡ true
-  unfolding isSoundCommon
+  unfolding isSoundDate
   opened-spot none b d s t later smaller e = let z : _≡_ {A = Bool} false true = e in cc
   opened-spot (some before) b d s t later smaller e = stays-spot before d s t later smaller month e
 
@@ -66,7 +66,7 @@ module _ (month : ℕ) where
       → spotSince (next r c .common .opened) month ≡ true
   unfolding next nextCommon tests openingTests
   accepted-spot r (opening d) s k e =
-      opened-spot (r .common .opened) (r .common .isOpen) d (facts r s .common) (not-false _ (k .1 .0)) (k .1 .1 .0) (k .1 .1 .1 .0) e
+      opened-spot (r .common .opened) (r .common .isOpen) d (facts r s .date) (not-false _ (k .1 .0)) (k .1 .1 .0) (k .1 .1 .1 .0) e
   accepted-spot r (sheet p ms ss) s k e = e
   accepted-spot r end s k e = e
   accepted-spot r (check p size m price) s k e = e
@@ -101,7 +101,7 @@ module _ (r : Record) (p size month price : ℕ) (v : Verdict) (e : respond r (c
   since : spotSince (r .common .opened) month ≡ isSpotOn (dayOf (r .common)) month
   since =
       let k = passed r p size month price v e in
-      since-opened month (r .common .opened) (open-opened _ _ (facts r (k .sound) .common) (k .isOpen))
+      since-opened month (r .common .opened) (open-opened _ _ (facts r (k .sound) .date) (k .isOpen))
 
   found-free : v ≡ Free → spotSince (r .common .opened) month ≡ true
   unfolding judged

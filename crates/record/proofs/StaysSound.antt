@@ -15,7 +15,7 @@ use Rattle.record.specs.Founding.{Start, isFitStart, foundProduct, found
 use Rattle.record.specs.Opening.{openingTests}
 use Rattle.record.specs.Sheet.{sheetTests}
 use Rattle.record.specs.Check.{termsTests, orderTests}
-use Rattle.record.specs.Sound.{isSoundGroup, isSoundCommon, isSound}
+use Rattle.record.specs.Sound.{isSoundGroup, isSoundDate, isSound}
 use Rattle.record.specs.Record.{Call, opening, sheet, end, check, tests, refusal, answer, stateBy, respond, stateAfter, answers}
 use Rattle.record.specs.Theorems.{isRefusal}
 use Rattle.record.proofs.Cleared.{accepted-clear, not-returned}
@@ -23,11 +23,11 @@ use Rattle.record.proofs.SoundGroups.{found-group}
 use Rattle.record.proofs.SoundCalls.{facts-sound, accepted-sound}
 
 pub founded-sound : (s : Start) → isFitStart s ≡ true → isSound (founded s) ≡ true
-unfolding _and_ every isFitStart groupTable founded foundGroup foundProduct isSoundCommon
+unfolding _and_ every isFitStart groupTable founded foundGroup foundProduct isSoundDate
 founded-sound s t =
     facts-sound _
     record {
-      common = refl;
+      date = refl;
       groups = every-map _ (foundGroup s) isSoundGroup (found-group s) groupTable (and-right (eqb (length (s .limits)) 8) _ t);
       resting = refl;
       lasts = refl;

@@ -9,7 +9,7 @@ use Rattle.grain.specs.Products.{firstOf}
 use Rattle.grain.specs.Amounts.{expandedOf}
 use Rattle.record.specs.Choices.{keep, concatMap}
 use Rattle.record.specs.Window.{windowAfter}
-use Rattle.record.specs.State.{Day, Contract, Sheet, Level, initial, expanded, Product, Group, Common, dayOf, isSpotOn, sheetOr, settlementOn}
+use Rattle.record.specs.State.{Day, Contract, Sheet, Level, initial, expanded, Product, Group, Common, withLevel, withMark, withProducts, withLimits, withWindow, withSheets, dayOf, isSpotOn, sheetOr, settlementOn}
 -- the leading contract, and a group's event with it
 pub use Rattle.record.specs.declared.Lead.{Lead}
 pub use Rattle.record.specs.declared.Event.{Event}
@@ -120,21 +120,13 @@ isRaised (Raised l) = true
 -- raised: I = old E, and E afresh
 unfoldable pub endProduct : Day → Event → Product → Product
 endProduct d e q =
-    record {
-      number = q .number;
-      initialLimit = cond (isRaised e) (q .expandedLimit) (q .initialLimit);
-      expandedLimit = cond (isRaised e) (expandedOf (q .number) (q .expandedLimit)) (q .expandedLimit);
-      window = windowAfter d (q .number) (q .window) (sheetOr (q .today));
-      today = none;
-      last = q .today;
-    }
+    withLimits (cond (isRaised e) (q .expandedLimit) (q .initialLimit))
+    (cond (isRaised e) (expandedOf (q .number) (q .expandedLimit)) (q .expandedLimit))
+    (withWindow (windowAfter d (q .number) (q .window) (sheetOr (q .today))) (withSheets none (q .today) q))
 
 unfoldable pub endGroup : Common → Group → Group
 endGroup c g =
     let d = dayOf c in
     let e = groupEvent c g in
-    record {
-      level = levelAfter e;
-      mark = markAfter e (any isAtExpanded (groupMoves d g));
-      products = map (endProduct d e) (g .products);
-    }
+    withLevel (levelAfter e)
+    (withMark (markAfter e (any isAtExpanded (groupMoves d g))) (withProducts (map (endProduct d e) (g .products)) g))

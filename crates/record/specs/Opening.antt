@@ -10,7 +10,7 @@ use Rattle.grain.specs.Amounts.{windowLength, expandedOf, seasonOf}
 use Rattle.grain.specs.Dates.{isDate, daysRemaining, seasonNumber}
 use Rattle.grain.specs.Refusals.{noSuchDate}
 use Rattle.record.specs.Refusals.{Test, when, wrongPhase, notLater, leftNotSmaller}
-use Rattle.record.specs.State.{Day, initial, Product, Group, Common, monthOf}
+use Rattle.record.specs.State.{Day, initial, Product, Group, Common, withLevel, withMark, withProducts, withLimits, withWindow, monthOf}
 
 -- a date, with left at most the days remaining in its month
 unfoldable pub isTrueDay : Day → Bool
@@ -59,14 +59,8 @@ isRenewed c d q = isNextSeason (c .opened) d && eqb (length (q .window)) windowL
 unfoldable pub openProduct : Common → Day → Product → Product
 openProduct c d q =
     let i = cond (isRenewed c d q) (seasonOf (q .number) (q .window)) (q .initialLimit) in
-    record {
-      number = q .number;
-      initialLimit = i;
-      expandedLimit = cond (isRenewed c d q) (expandedOf (q .number) i) (q .expandedLimit);
-      window = cond (isOtherSeason (c .opened) d) [] (q .window);
-      today = q .today;
-      last = q .last;
-    }
+    let e = cond (isRenewed c d q) (expandedOf (q .number) i) (q .expandedLimit) in
+    withLimits i e (withWindow (cond (isOtherSeason (c .opened) d) [] (q .window)) q)
 
 -- a product of the group gets its season limits
 unfoldable pub hasNewLimits : Common → Day → Group → Bool
@@ -75,8 +69,5 @@ hasNewLimits c d g = any (isRenewed c d) (g .products)
 -- a group with new limits starts the season at the initial level, with no mark; any other keeps its level and mark
 unfoldable pub openGroup : Common → Day → Group → Group
 openGroup c d g =
-    record {
-      level = cond (hasNewLimits c d g) initial (g .level);
-      mark = cond (hasNewLimits c d g) false (g .mark);
-      products = map (openProduct c d) (g .products);
-    }
+    withLevel (cond (hasNewLimits c d g) initial (g .level))
+    (withMark (cond (hasNewLimits c d g) false (g .mark)) (withProducts (map (openProduct c d) (g .products)) g))

@@ -9,7 +9,7 @@ use Rattle.grain.specs.Refusals.{noSuchProduct}
 use Rattle.grain.specs.declared.check.Verdict.{Verdict}
 use Rattle.record.specs.Choices.{concatMap, isSome}
 use Rattle.record.specs.Refusals.{Test, when, first, unsound, wrongPhase, sheetOutstanding}
-use Rattle.record.specs.State.{Day, Group, Common, Record, groupOf, groupAt}
+use Rattle.record.specs.State.{Day, Group, Common, Record, withOpened, withIsOpen, groupOf, groupAt}
 use Rattle.record.specs.Opening.{openingTests, isRenewed, openGroup}
 use Rattle.record.specs.Sheet.{contracts, sheetTests, fileGroup}
 use Rattle.record.specs.End.{Event, groupEvent, endGroup}
@@ -72,9 +72,9 @@ answer r (check p size month price) = checked (judged (termsIn r p size) month p
 
 -- what an accepted call leaves, of what is common and of each group
 unfoldable pub nextCommon : Common → Call → Common
-nextCommon c (opening d) = record { opened = some d; isOpen = true }
+nextCommon c (opening d) = withOpened (some d) (withIsOpen true c)
 nextCommon c (sheet p ms ss) = c
-nextCommon c end = record { opened = c .opened; isOpen = false }
+nextCommon c end = withIsOpen false c
 nextCommon c (check p size month price) = c
 
 unfoldable pub nextGroup : Common → Call → Group → Group

@@ -11,7 +11,7 @@ use Rattle.grain.specs.Prices.{isSettlement}
 use Rattle.grain.specs.Refusals.{misshapen, badPrice}
 use Rattle.record.specs.Choices.{isSome}
 use Rattle.record.specs.Refusals.{Test, when, alreadyIn, badMonth, contractAbsent, beyondLimit}
-use Rattle.record.specs.State.{maxContracts, Contract, Sheet, Product, Group, Common, dayOf, monthOf, isSpotOn, productIn, todaysLimit, sheetOr, settlementOn}
+use Rattle.record.specs.State.{maxContracts, Contract, Sheet, Product, Group, Common, withProducts, withToday, dayOf, monthOf, isSpotOn, productIn, todaysLimit, sheetOr, settlementOn}
 
 -- the two arrays as contracts
 abbrev pub contracts : List ℕ → List ℕ → Sheet
@@ -63,15 +63,7 @@ sheetTests c g p ms ss =
     ∷ []
 
 unfoldable pub fileProduct : ℕ → Sheet → Product → Product
-fileProduct p s q =
-    record {
-      number = q .number;
-      initialLimit = q .initialLimit;
-      expandedLimit = q .expandedLimit;
-      window = q .window;
-      today = cond (eqb (q .number) p) (some s) (q .today);
-      last = q .last;
-    }
+fileProduct p s q = withToday (cond (eqb (q .number) p) (some s) (q .today)) q
 
 unfoldable pub fileGroup : ℕ → Sheet → Group → Group
-fileGroup p s g = record { level = g .level; mark = g .mark; products = map (fileProduct p s) (g .products) }
+fileGroup p s g = withProducts (map (fileProduct p s) (g .products)) g

@@ -1,6 +1,6 @@
 -- A sound Record: every field in its range, and the parts in agreement.
 use Prim.Native.Nat.{ℕ}
-use mathlib.Core.Bool.{Bool, true, false, not, _||_, cond}
+use mathlib.Core.Bool.{Bool, true, false, not, _||_}
 use mathlib.Core.List.{List, map}
 use mathlib.Core.Option.{Option, some, none}
 use lib.Dec.{leb, eqb}
@@ -10,7 +10,7 @@ use Rattle.grain.specs.Products.{isProduct, isTraded}
 use Rattle.grain.specs.Prices.{isSettlement}
 use Rattle.grain.specs.Amounts.{windowLength, expandedOf, isFitAmount}
 use Rattle.record.specs.Choices.{isSome}
-use Rattle.record.specs.State.{maxContracts, Contract, Sheet, Level, initial, expanded, Product, Group, Common, Record, dayOf}
+use Rattle.record.specs.State.{maxContracts, Day, Contract, Sheet, Level, initial, expanded, Product, Group, Record}
 use Rattle.record.specs.Opening.{isTrueDay}
 
 -- 1 to 16 contracts, months as in 7 without the date test, settlements on the standard tick
@@ -42,8 +42,9 @@ unfoldable pub isSoundGroup : Group → Bool
 isSoundGroup g = (not (g .mark) || isExpanded (g .level)) and every isSoundProduct (g .products)
 
 -- a date where a day is open
-unfoldable pub isSoundCommon : Common → Bool
-isSoundCommon c = cond (isSome (c .opened)) (isTrueDay (dayOf c)) (not (c .isOpen))
+unfoldable pub isSoundDate : Option Day → Bool → Bool
+isSoundDate none isOpen = not isOpen
+isSoundDate (some d) isOpen = isTrueDay d
 
 abbrev pub everyProduct : (Product → Bool) → List Group → Bool
 everyProduct f gs = every (λ g. every f (g .products)) gs
@@ -60,6 +61,6 @@ hasNoLast q = not (isSome (q .last))
 -- no sheet in while no day is open; last ended sheets all, with a date, or none
 unfoldable pub isSound : Record → Bool
 isSound r =
-    isSoundCommon (r .common) and every isSoundGroup (r .groups)
+    isSoundDate (r .common .opened) (r .common .isOpen) and every isSoundGroup (r .groups)
     and (r .common .isOpen || everyProduct hasNoSheetIn (r .groups))
     and ((isSome (r .common .opened) and everyProduct hasLast (r .groups)) || everyProduct hasNoLast (r .groups))

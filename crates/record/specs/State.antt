@@ -51,6 +51,54 @@ pub record Record : Type 0 where
   pub common : Common
   pub groups : List Group
 
+-- ---- the same with one part changed
+abbrev pub withOpened : Option Day → Common → Common
+withOpened o c = record { opened = o; isOpen = c .isOpen }
+
+abbrev pub withIsOpen : Bool → Common → Common
+withIsOpen b c = record { opened = c .opened; isOpen = b }
+
+abbrev pub withLevel : Level → Group → Group
+withLevel l g = record { level = l; mark = g .mark; products = g .products }
+
+abbrev pub withMark : Bool → Group → Group
+withMark b g = record { level = g .level; mark = b; products = g .products }
+
+abbrev pub withProducts : List Product → Group → Group
+withProducts qs g = record { level = g .level; mark = g .mark; products = qs }
+
+-- I and E
+abbrev pub withLimits : ℕ → ℕ → Product → Product
+withLimits i e q =
+    record { number = q .number; initialLimit = i; expandedLimit = e; window = q .window; today = q .today; last = q .last }
+
+abbrev pub withWindow : List ℕ → Product → Product
+withWindow w q =
+    record {
+      number = q .number;
+      initialLimit = q .initialLimit;
+      expandedLimit = q .expandedLimit;
+      window = w;
+      today = q .today;
+      last = q .last;
+    }
+
+-- the sheet that is in today, and that of the last ended day
+abbrev pub withSheets : Option Sheet → Option Sheet → Product → Product
+withSheets today last q =
+    record {
+      number = q .number;
+      initialLimit = q .initialLimit;
+      expandedLimit = q .expandedLimit;
+      window = q .window;
+      today = today;
+      last = last;
+    }
+
+abbrev pub withToday : Option Sheet → Product → Product
+withToday s q = withSheets s (q .last) q
+
+-- ---- groups and products
 -- the products of each group: Corn; the Soybean Complex; Chicago and KC Wheat; Oats; Rough Rice
 unfoldable pub groupTable : List (List ℕ)
 groupTable = (0 ∷ []) ∷ (1 ∷ 2 ∷ 3 ∷ []) ∷ (4 ∷ 5 ∷ []) ∷ (6 ∷ []) ∷ (7 ∷ []) ∷ []

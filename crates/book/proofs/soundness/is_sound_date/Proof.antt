@@ -1,6 +1,6 @@
 use borrow.Author.Needs.{needs}
 use mathlib.Core.Path.{sym, _∙_}
-use Rattle.record.specs.Sound.{isSoundCommon}
+use Rattle.record.specs.Sound.{isSoundDate}
 use Rattle.book.proofs.soundness.is_sound_date.Statement.{statement}
 use Rattle.book.proofs.soundness.is_sound_date.Tie as tie
 
@@ -8,14 +8,14 @@ is-no-day-requires : tie.Need-is-no-day-requires
 is-no-day-requires c κs = search needs
 
 returns : tie.Need-returns
-unfolding isSoundCommon
+unfolding isSoundDate
 returns c = rw (sym (c .before .is-no-day .ensures) ∙ c .if1 .taken)
 
 is-true-day-requires : tie.Need-is-true-day-requires
 is-true-day-requires c κs = search needs
 
 returns-2 : tie.Need-returns-2
-unfolding isSoundCommon
+unfolding isSoundDate
 returns-2 c =
     rw (sym (c .before .before .is-no-day .ensures) ∙ c .before .if1 .left) (c .is-true-day .ensures)
 
