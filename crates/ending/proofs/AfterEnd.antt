@@ -15,7 +15,8 @@ use Rattle.record.specs.declared.Event.{Event}
 use Rattle.record.specs.declared.Event.the-variants.{Quiet, Triggered, Held, Reverted, Raised}
 use Rattle.record.specs.declared.GroupEvent.{GroupEvent}
 use Rattle.record.specs.State.{Product, Group, groupTable, groupCount, groupOf, dayOf, tradeDate}
-use Rattle.record.specs.End.{Move, isAtExpanded, groupMoves, groupEvent, eventOf, levelAfter, markAfter, isRaised, endProduct, endGroup}
+use Rattle.record.specs.Move.{Move, isAtExpanded, groupMoves}
+use Rattle.record.specs.End.{groupEvent, eventOf, levelAfter, markAfter, isRaised, endProduct, endGroup}
 use Rattle.record.specs.Sound.{isExpanded}
 use Rattle.record.specs.Record.{end, ended, answer, next, nextCommon, nextGroup}
 use Rattle.record.specs.History.{productsOf}
@@ -33,7 +34,7 @@ use Rattle.ending.specs.Lead.{movesOf}
 use Rattle.ending.specs.Ends.{quiet, eventsOf, eventIn, standingOfEnd, limitAfter, limitOfEnd, windowOfEnd}
 
 -- the moves of some products on the day of the book
-abbrev pub movesToday : Book → List ℕ → List Move
+abbrev pub movesToday : Book → List ℕ → List (List Move)
 movesToday b ps = movesOf b (tradeDate (b .day)) ps
 
 abbrev pub eventToday : Book → ℕ → Event
@@ -71,9 +72,9 @@ events-are b =
     ∙ same-groups (λ g. groupEvent (viewCommon b) (shownGroup b g)) (eventToday b) (λ g l. event-is b g (productsOf g))
 
 -- what an end makes of a group
-abbrev groupAfter : Day → Event → List Move → List Product → Group
-groupAfter d e ms qs =
-    record { level = levelAfter e; mark = markAfter e (any isAtExpanded ms); products = map (endProduct d e) qs }
+abbrev groupAfter : Day → Event → List (List Move) → List Product → Group
+groupAfter d e mss qs =
+    record { level = levelAfter e; mark = markAfter e (any (any isAtExpanded) mss); products = map (endProduct d e) qs }
 
 group-after : (b : Book) (g : ℕ)
     → endGroup (viewCommon b) (viewGroup b g (productsOf g))
@@ -85,7 +86,7 @@ group-after b g =
     let shown = viewGroup b g ps in
     ap (λ (d : Day). groupAfter d (groupEvent (viewCommon b) shown) (groupMoves (dayOf (viewCommon b)) shown) qs) (day-is b)
     ∙ ap (λ (e : Event). groupAfter (b .day) e (groupMoves (dayOf (viewCommon b)) shown) qs) (event-is b g ps)
-    ∙ ap (λ (ms : List Move). groupAfter (b .day) (eventToday b g) ms qs) (moves-are b g ps)
+    ∙ ap (λ (mss : List (List Move)). groupAfter (b .day) (eventToday b g) mss qs) (moves-are b g ps)
 
 level-of : (e : Event) → levelOf (isExpanded (levelAfter e)) ≡ levelAfter e
 level-of Quiet = refl

@@ -5,8 +5,9 @@ use mathlib.Core.List.{List}
 use mathlib.Core.Option.{Option, some, none}
 use Rattle.grain.specs.Lists.{any}
 use Rattle.record.specs.declared.Lead.{Lead}
-use Rattle.record.specs.Choices.{keep, isSome}
-use Rattle.record.specs.End.{Move, leading}
+use Rattle.record.specs.Choices.{keep, concatMap, isSome}
+use Rattle.record.specs.Move.{Move}
+use Rattle.record.specs.End.{leading}
 use Rattle.ending.specs.declared.lead.Found.{Found}
 use Rattle.ending.specs.declared.lead.Found.the-variants.{At, Nobody}
 use Rattle.ending.specs.Lead.{foundAs}
@@ -28,9 +29,9 @@ module _ (o : Option Lead) (r : Found) (e : r ≡ foundAs o) where
       go (some m) h = let is : m ≡ l = cc in ap some is
 
 -- whether one moved so
-module _ (g : Move → Bool) (ms : List Move) (r : Found) (e : r ≡ foundAs (leading (keep g ms))) where
-  pub nobody-moved : r ≡ Nobody → false ≡ any g ms
-  nobody-moved t = sym (sym (leading-any g ms) ∙ ap isSome (nobody (leading (keep g ms)) r e t))
+module _ (g : Move → Bool) (mss : List (List Move)) (r : Found) (e : r ≡ foundAs (leading (concatMap (keep g) mss))) where
+  pub nobody-moved : r ≡ Nobody → false ≡ any (any g) mss
+  nobody-moved t = sym (sym (leading-any g mss) ∙ ap isSome (nobody (leading (concatMap (keep g) mss)) r e t))
 
-  pub one-moved : (l : Lead) → r ≡ At l → true ≡ any g ms
-  one-moved l t = sym (sym (leading-any g ms) ∙ ap isSome (found-at (leading (keep g ms)) r e l t))
+  pub one-moved : (l : Lead) → r ≡ At l → true ≡ any (any g) mss
+  one-moved l t = sym (sym (leading-any g mss) ∙ ap isSome (found-at (leading (concatMap (keep g) mss)) r e l t))

@@ -1,8 +1,8 @@
--- Which contract leads: one that meets g, where no other that meets it is ahead.
+-- Which contract leads: one of the candidates, where no other is ahead.
 use Prim.Native.Nat.{ℕ, _≤_, _<_}
 use mathlib.Core.Path.{_≡_, refl, sym, subst, _∙_, ap, ap₂}
-use mathlib.Core.Bool.{Bool, true, false, cond, false≢true}
-use mathlib.Core.List.{List, [], _∷_}
+use mathlib.Core.Bool.{Bool, true, false, cond, _||_}
+use mathlib.Core.List.{List, [], _∷_, _++_}
 use mathlib.Core.Option.{Option, some, none}
 use mathlib.Core.Logic.{_⊎_, inl, inr, ⊎-elim}
 use native.Mathlib.Nat.{eq-or-lt-of-le}
@@ -10,8 +10,9 @@ use native.Mathlib.Omega.{arith}
 use borrow.Author.Tests.{lt-ltb, le-ltb, eq-eqb, ne-eqb}
 use Rattle.grain.specs.Lists.{any}
 use Rattle.record.specs.declared.Lead.{Lead}
-use Rattle.record.specs.Choices.{keep, isSome}
-use Rattle.record.specs.End.{Move, isAhead, aheadOf, leading}
+use Rattle.record.specs.Choices.{keep, concatMap, isSome}
+use Rattle.record.specs.Move.{Move}
+use Rattle.record.specs.End.{isAhead, aheadOf, leading}
 use Rattle.ending.proofs.Members.{Member}
 
 abbrev pub leadBy : Move → Lead
@@ -52,42 +53,46 @@ module _ (a : Lead) where
   ahead-behind x none u v = u
   ahead-behind x (some l) u v = one-behind (isAhead l x) l x v u
 
+-- ---- whether one leads
+some-leads : (ms ns : List Move) → isSome (leading (ms ++ ns)) ≡ isSome (leading ms) || isSome (leading ns)
+some-leads [] ns = refl
+some-leads (v ∷ ms) ns = refl
+
 module _ (g : Move → Bool) where
-  pub leading-any : (ms : List Move) → isSome (leading (keep g ms)) ≡ any g ms
-  leading-any [] = refl
-  leading-any (v ∷ ms) = go (g v) refl (leading-any ms)
+  kept-any : (ms : List Move) → isSome (leading (keep g ms)) ≡ any g ms
+  kept-any [] = refl
+  kept-any (v ∷ ms) = go (g v) refl (kept-any ms)
     where
       go : (x : Bool) → g v ≡ x → isSome (leading (keep g ms)) ≡ any g ms → isSome (leading (keep g (v ∷ ms))) ≡ any g (v ∷ ms)
       go true e later = rw e
       go false e later = rw (e, later)
 
-  pub none-lead : (ms : List Move) → ((v : Move) → Member v ms → g v ≡ false) → leading (keep g ms) ≡ none
-  none-lead [] u = refl
-  none-lead (v ∷ ms) u = rw (u v (inl refl), none-lead ms (λ w k. u w (inr k)))
+  pub leading-any : (mss : List (List Move)) → isSome (leading (concatMap (keep g) mss)) ≡ any (any g) mss
+  leading-any [] = refl
+  leading-any (ms ∷ mss) = some-leads (keep g ms) (concatMap (keep g) mss) ∙ ap₂ _||_ (kept-any ms) (leading-any mss)
 
-  module _ (v : Move) (met : g v ≡ true) where
-    -- those of a list that meet g are behind v
-    abbrev Low : List Move → Type 0
-    Low ms = (w : Move) → Member w ms → g w ≡ true → Behind (leadBy v) (leadBy w)
+-- ---- which leads
+pub none-lead : (ms : List Move) → ((v : Move) → Member v ms → ⊥) → leading ms ≡ none
+none-lead [] u = refl
+none-lead (v ∷ ms) u = absurd (u v (inl refl))
 
-    behind : (ms : List Move) → Low ms → AllBehind (leadBy v) (leading (keep g ms))
-    behind [] u = tt
-    behind (w ∷ ms) u = go (g w) refl (behind ms (λ x k. u x (inr k)))
-      where
-        go : (x : Bool) → g w ≡ x → AllBehind (leadBy v) (leading (keep g ms)) → AllBehind (leadBy v) (leading (keep g (w ∷ ms)))
-        go true e later = rw e (ahead-behind (leadBy v) (leadBy w) (leading (keep g ms)) (u w (inl refl) e) later)
-        go false e later = rw e later
+module _ (v : Move) where
+  -- all of a list are behind v
+  abbrev Low : List Move → Type 0
+  Low ms = (w : Move) → Member w ms → Behind (leadBy v) (leadBy w)
 
-    pub one-leads : (ms : List Move) → Member v ms → Low ms → leading (keep g ms) ≡ some (leadBy v)
-    one-leads [] d u = absurd d
-    one-leads (w ∷ ms) d u = go (g w) refl (λ k. one-leads ms k (λ x j. u x (inr j)))
-      where
-        go : (x : Bool) → g w ≡ x → (Member v ms → leading (keep g ms) ≡ some (leadBy v)) → leading (keep g (w ∷ ms)) ≡ some (leadBy v)
-        go true e later =
-            ⊎-elim
-            (λ same.
-            subst (λ (x : Move). leading (keep g (x ∷ ms)) ≡ some (leadBy v)) same
-            (rw met (ap some (stays (leadBy v) (leading (keep g ms)) (behind ms (λ x j. u x (inr j)))))))
-            (λ k. rw (e, later k) (ap some (overtakes (leadBy v) (leadBy w) (u w (inl refl) e)))) d
-        go false e later =
-            ⊎-elim (λ same. absurd (false≢true (sym e ∙ subst (λ (x : Move). g x ≡ true) same met))) (λ k. rw e (later k)) d
+  behind : (ms : List Move) → Low ms → AllBehind (leadBy v) (leading ms)
+  behind [] u = tt
+  behind (w ∷ ms) u = ahead-behind (leadBy v) (leadBy w) (leading ms) (u w (inl refl)) (behind ms (λ x k. u x (inr k)))
+
+  pub one-leads : (ms : List Move) → Member v ms → Low ms → leading ms ≡ some (leadBy v)
+  one-leads [] d u = absurd d
+  one-leads (w ∷ ms) d u = go (λ k. one-leads ms k (λ x j. u x (inr j)))
+    where
+      go : (Member v ms → leading ms ≡ some (leadBy v)) → leading (w ∷ ms) ≡ some (leadBy v)
+      go later =
+          ⊎-elim
+          (λ same.
+          subst (λ (x : Move). leading (x ∷ ms) ≡ some (leadBy v)) same
+          (ap some (stays (leadBy v) (leading ms) (behind ms (λ x j. u x (inr j))))))
+          (λ k. rw (later k) (ap some (overtakes (leadBy v) (leadBy w) (u w (inl refl))))) d

@@ -2,6 +2,7 @@ pub mod Earlier
 pub mod Leads
 pub mod Members
 pub mod MovesIn
+pub mod Candidates
 pub mod Nexts
 pub mod Products
 pub mod Searched

@@ -14,7 +14,7 @@ use Rattle.grain.proofs.Tests.{&&-left, &&-right}
 use Rattle.record.specs.declared.Contract.{Contract}
 use Rattle.record.specs.Choices.{keep}
 use Rattle.record.specs.State.{Product, sheetOr, settlementOn}
-use Rattle.record.specs.End.{Move, moveFrom, movesAmong, productMoves}
+use Rattle.record.specs.Move.{Move, moveFrom, movesAmong, productMoves}
 use Rattle.sheets.specs.Sheets.{monthsOf}
 use Rattle.ending.specs.Search.{countEarlier, changeMeets, meetsOn}
 use Rattle.ending.proofs.Earlier.{count-spot, count-late, count-early}

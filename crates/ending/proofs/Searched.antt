@@ -1,22 +1,23 @@
 -- The search for the leading contract, month after month: what is known where a month has been looked through.
 use Prim.Native.Nat.{ℕ, zero, suc, _+_, _-_, _≤_, _<_}
 use mathlib.Core.Path.{_≡_, refl, sym, subst, _∙_, ap₂}
-use mathlib.Core.Bool.{Bool, true, false, cond, _&&_, false≢true}
+use mathlib.Core.Bool.{Bool, true, false, cond, false≢true}
 use mathlib.Core.List.{List, map}
 use mathlib.Core.Option.{Option, some, none}
 use mathlib.Core.Logic.{_⊎_, inl, inr, ⊎-elim}
 use native.Mathlib.Nat.{eq-or-lt-of-le}
 use native.Mathlib.Omega.{arith}
 use borrow.Author.Tests.{le-leb, ltb-true, ltb-false, eq-eqb, eqb-true}
-use lib.Dec.{ltb, eqb}
+use lib.Dec.{ltb}
 use Rattle.grain.specs.declared.spot.TradeDate.{TradeDate}
 use Rattle.grain.specs.Spot.{isSpot}
 use Rattle.grain.specs.Products.{firstOf}
-use Rattle.grain.proofs.Tests.{&&-left, &&-right, &&-both}
+use Rattle.grain.specs.Lists.{any}
 use Rattle.record.specs.declared.Lead.{Lead}
-use Rattle.record.specs.Choices.{keep, concatMap, isSome}
+use Rattle.record.specs.Choices.{concatMap, isSome}
 use Rattle.record.specs.State.{Product, settlementOn}
-use Rattle.record.specs.End.{Move, productMoves, leading}
+use Rattle.record.specs.Move.{Move, productMoves}
+use Rattle.record.specs.End.{leading}
 use Rattle.sheets.specs.Sheets.{contractsOf}
 use Rattle.book.specs.declared.Book.{Book}
 use Rattle.book.specs.Book.{limitIn, todayIn, lastIn, viewProduct}
@@ -24,11 +25,12 @@ use Rattle.book.specs.Numbers.{numbersFrom}
 use Rattle.ending.specs.declared.lead.Condition.{Condition}
 use Rattle.book.proofs.SheetsIn.{sheet-contracts}
 use Rattle.ending.specs.Search.{countEarlier, changeMeets, meetsOn}
-use Rattle.ending.specs.Lead.{meets, movesOf, Readable}
+use Rattle.ending.specs.Lead.{meets, candidates, movesOf, Readable}
 use Rattle.ending.proofs.Nexts.{Under, nextOf, next-under}
 use Rattle.ending.proofs.Members.{Member, member-any, any-member, member-left, member-right, member-either}
 use Rattle.ending.proofs.Leads.{leadBy, Behind, none-lead, one-leads}
-use Rattle.ending.proofs.MovesIn.{hasMove, moves-of-month, move-number}
+use Rattle.ending.proofs.MovesIn.{moves-of-month, move-number}
+use Rattle.ending.proofs.Candidates.{isOf, candidate-moves, candidates-month}
 
 lt-or-ge : (a b : ℕ) → (a < b) ⊎ (b ≤ a)
 lt-or-ge a b = go (ltb a b) refl
@@ -37,26 +39,29 @@ lt-or-ge a b = go (ltb a b) refl
     go true e = inl (ltb-true a b e)
     go false e = inr (ltb-false a b e)
 
--- the moves of products that stand together
-module _ (moves : Product → List Move) (q : ℕ → Product) (v : Move) where
+-- the candidates of products that stand together
+module _ (f : List Move → List Move) (moves : Product → List Move) (q : ℕ → Product) (v : Move) where
   abbrev together : ℕ → ℕ → List Move
-  together lo k = concatMap moves (map q (numbersFrom lo k))
+  together lo k = concatMap f (map moves (map q (numbersFrom lo k)))
 
-  one-of : (P : Type 0) (lo k : ℕ) → Member v (together lo k) → ((p : ℕ) → lo ≤ p → p < lo + k → Member v (moves (q p)) → P) → P
+  abbrev of : ℕ → List Move
+  of p = f (moves (q p))
+
+  one-of : (P : Type 0) (lo k : ℕ) → Member v (together lo k) → ((p : ℕ) → lo ≤ p → p < lo + k → Member v (of p) → P) → P
   one-of P lo zero d found = absurd d
   one-of P lo (suc k) d found =
-      member-either P v (moves (q lo)) (together (suc lo) k) d
+      member-either P v (of lo) (together (suc lo) k) d
       (λ j. found lo (omega arith) (omega arith) j)
       (λ j. one-of P (suc lo) k j (λ p a b. found p (omega arith) (omega arith)))
 
-  among : (lo k p : ℕ) → lo ≤ p → p < lo + k → Member v (moves (q p)) → Member v (together lo k)
+  among : (lo k p : ℕ) → lo ≤ p → p < lo + k → Member v (of p) → Member v (together lo k)
   among lo zero p a b d = absurd (omega arith)
   among lo (suc k) p a b d = go (among (suc lo) k p)
     where
-      go : (suc lo ≤ p → p < suc lo + k → Member v (moves (q p)) → Member v (together (suc lo) k)) → Member v (together lo (suc k))
+      go : (suc lo ≤ p → p < suc lo + k → Member v (of p) → Member v (together (suc lo) k)) → Member v (together lo (suc k))
       go later =
-          ⊎-elim (λ same. member-left v (moves (q lo)) (together (suc lo) k) (subst (λ (x : ℕ). Member v (moves (q x))) (sym same) d))
-          (λ above. member-right v (moves (q lo)) (together (suc lo) k) (later above (omega arith) d))
+          ⊎-elim (λ same. member-left v (of lo) (together (suc lo) k) (subst (λ (x : ℕ). Member v (of x)) (sym same) d))
+          (λ above. member-right v (of lo) (together (suc lo) k) (later above (omega arith) d))
           (eq-or-lt-of-le a)
 
 changed-listed : (g : Move → Bool) (p i e m : ℕ) (isFirst s : Bool) (x y : Option ℕ)
@@ -94,11 +99,18 @@ module _ (b : Book) (date : TradeDate) (condition : Condition) where
     abbrev movesBy : ℕ → List Move
     movesBy p = productMoves spot (viewProduct b p)
 
-    has : (p m : ℕ) → p < 8 → hasMove g m (movesBy p) ≡ isMet p m
+    abbrev candidatesBy : ℕ → List Move
+    candidatesBy p = candidates condition (movesBy p)
+
+    abbrev all : List Move
+    all = concatMap (candidates condition) (movesOf b date group)
+
+    has : (p m : ℕ) → p < 8 → any (isOf m) (candidatesBy p) ≡ isMet p m
     unfolding isMet viewProduct
     has p m h =
         let t = sheet-contracts (todayIn b p) in
-        moves-of-month g spot (viewProduct b p) m (rw t (sound .ascending p h))
+        candidates-month condition m (movesBy p)
+        ∙ moves-of-month g spot (viewProduct b p) m (rw t (sound .ascending p h))
         ∙ rw (t, sheet-contracts (lastIn b p))
 
     listing : (p m : ℕ) → isMet p m ≡ true → isSome (settlementOn (contractsOf (todayIn b p)) m) ≡ true
@@ -134,29 +146,22 @@ module _ (b : Book) (date : TradeDate) (condition : Condition) where
             let w : (0 < m) × (m ≤ n) = nearest a m p n e clear here k l v in
             absurd (omega arith)
 
-    -- a move that meets the condition is its product's in its month
-    met-by : (v : Move) (p : ℕ) → p < hi → Member v (movesBy p) → g v ≡ true → isMet p (v .month) ≡ true
-    met-by v p l d e =
-        sym (has p (v .month) (omega arith))
-        ∙ member-any (λ w. eqb (w .month) (v .month) && g w) v (movesBy p) d
-        (&&-both (eqb (v .month) (v .month)) (g v) (eq-eqb (v .month) (v .month) refl) e)
+    -- a candidate is its product's in its month
+    met-by : (v : Move) (p : ℕ) → p < hi → Member v (candidatesBy p) → isMet p (v .month) ≡ true
+    met-by v p l d =
+        sym (has p (v .month) (omega arith)) ∙ member-any (isOf (v .month)) v (candidatesBy p) d (eq-eqb (v .month) (v .month) refl)
 
     pub none-leads : (a m : ℕ) → m ≡ nextOf (b .today) a 0 group → m ≡ 0 → Clear isMet lo hi a → ClearAt isMet lo hi a
-        → leading (keep g (movesOf b date group)) ≡ none
+        → leading all ≡ none
     unfolding movesOf
-    none-leads a m e z clear here = none-lead g (movesOf b date group) unmet
-      where
-        unmet : (v : Move) → Member v (movesOf b date group) → g v ≡ false
-        unmet v d = go (g v) refl
-          where
-            go : (x : Bool) → g v ≡ x → g v ≡ false
-            go false u = u
-            go true u =
-                one-of (productMoves spot) (viewProduct b) v (g v ≡ false) lo (hi - lo) d
-                (λ p k l j.
-                let h : p < hi = omega arith in
-                let w : (0 < m) × (m ≤ v .month) = nearest a m p (v .month) e clear here k h (met-by v p h j u) in
-                absurd (omega arith))
+    none-leads a m e z clear here =
+        none-lead all
+        (λ v d.
+        one-of (candidates condition) (productMoves spot) (viewProduct b) v ⊥ lo (hi - lo) d
+        (λ p k l j.
+        let h : p < hi = omega arith in
+        let w : (0 < m) × (m ≤ v .month) = nearest a m p (v .month) e clear here k h (met-by v p h j) in
+        omega arith))
 
     -- the first product that meets the condition in a month before which nothing does
     module _ (m p : ℕ) (clear : Clear isMet lo hi m) (k : lo ≤ p) (l : p < hi) (here : ClearAt isMet lo p m) where
@@ -169,26 +174,23 @@ module _ (b : Book) (date : TradeDate) (condition : Condition) where
           (λ later. inl later) (eq-or-lt-of-le from))
           (lt-or-ge n m)
 
-      low : (v : Move) → v .month ≡ m → v .product ≡ p → (w : Move) → Member w (movesOf b date group) → g w ≡ true
-          → Behind (leadBy v) (leadBy w)
+      low : (v : Move) → v .month ≡ m → v .product ≡ p → (w : Move) → Member w all → Behind (leadBy v) (leadBy w)
       unfolding movesOf viewProduct
-      low v in-month by-product w d met =
-          one-of (productMoves spot) (viewProduct b) w (Behind (leadBy v) (leadBy w)) lo (hi - lo) d
+      low v in-month by-product w d =
+          one-of (candidates condition) (productMoves spot) (viewProduct b) w (Behind (leadBy v) (leadBy w)) lo (hi - lo) d
           (λ t i j inside.
           let h : t < hi = omega arith in
-          let number : w .product ≡ t = move-number spot (viewProduct b t) w inside in
-          rw (in-month, by-product, number) (first (w .month) t i h (met-by w t h inside met)))
+          let number : w .product ≡ t = move-number spot (viewProduct b t) w (candidate-moves condition w (movesBy t) inside) in
+          rw (in-month, by-product, number) (first (w .month) t i h (met-by w t h inside)))
 
-      pub this-leads : isMet p m ≡ true
-          → leading (keep g (movesOf b date group)) ≡ some (record { month = m; product = p })
+      pub this-leads : isMet p m ≡ true → leading all ≡ some (record { month = m; product = p })
       unfolding movesOf viewProduct
       this-leads met =
           let lead : Lead = record { month = m; product = p } in
-          any-member (leading (keep g (movesOf b date group)) ≡ some lead) (λ w. eqb (w .month) m && g w) (movesBy p)
-          (has p m (omega arith) ∙ met)
-          (λ v d both.
-          let in-month = eqb-true (v .month) m (&&-left (eqb (v .month) m) (g v) both) in
-          let by-product : v .product ≡ p = move-number spot (viewProduct b p) v d in
-          one-leads g v (&&-right (eqb (v .month) m) (g v) both) (movesOf b date group)
-          (among (productMoves spot) (viewProduct b) v lo (hi - lo) p k (omega arith) d) (low v in-month by-product)
+          any-member (leading all ≡ some lead) (isOf m) (candidatesBy p) (has p m (omega arith) ∙ met)
+          (λ v d is.
+          let in-month = eqb-true (v .month) m is in
+          let by-product : v .product ≡ p = move-number spot (viewProduct b p) v (candidate-moves condition v (movesBy p) d) in
+          one-leads v all (among (candidates condition) (productMoves spot) (viewProduct b) v lo (hi - lo) p k (omega arith) d)
+          (low v in-month by-product)
           ∙ ap₂ (λ (x y : ℕ). let n : Lead = record { month = x; product = y } in some n) in-month by-product)

@@ -13,7 +13,8 @@ use Rattle.record.specs.declared.Event.the-variants.{Quiet}
 use Rattle.record.specs.declared.GroupEvent.{GroupEvent}
 use Rattle.record.specs.State.{groupCount, groupOf, sheetOr}
 use Rattle.record.specs.Window.{windowAfter}
-use Rattle.record.specs.End.{levelAfter, markAfter, eventOf, isRaised, isAtExpanded}
+use Rattle.record.specs.Move.{isAtExpanded}
+use Rattle.record.specs.End.{levelAfter, markAfter, eventOf, isRaised}
 use Rattle.record.specs.Sound.{isExpanded}
 use Rattle.record.specs.Record.{end, Answer, ended, refusal}
 use Rattle.record.specs.History.{productsOf}
@@ -57,7 +58,7 @@ standingAfter e atExpanded = record { expanded = isExpanded (levelAfter e); mark
 
 -- the standing of a group of a book after its event
 abbrev pub standingOfEnd : Book → TradeDate → List GroupEvent → ℕ → Standing
-standingOfEnd b date es g = standingAfter (getD es g quiet .event) (any isAtExpanded (movesOf b date (productsOf g)))
+standingOfEnd b date es g = standingAfter (getD es g quiet .event) (any (any isAtExpanded) (movesOf b date (productsOf g)))
 
 -- raised: I = old E, and E afresh
 abbrev pub limitAfter : Bool → ℕ → Limit → Limit

@@ -9,30 +9,39 @@ use Rattle.grain.specs.Products.{productCount}
 use Rattle.grain.specs.Spot.{isSpot}
 use Rattle.grain.specs.declared.spot.TradeDate.{TradeDate}
 use Rattle.record.specs.declared.Lead.{Lead}
-use Rattle.record.specs.Choices.{concatMap}
+use Rattle.record.specs.Choices.{keep, concatMap}
 use Rattle.record.specs.State.{maxContracts}
-use Rattle.record.specs.End.{Move, productMoves, isTrigger, isHolding, isAtExpanded}
+use Rattle.record.specs.Move.{Move, productMoves, isTrigger, isAtLeastInitial, isAtExpanded}
+use Rattle.record.specs.End.{leading}
 use Rattle.sheets.specs.Sheets.{contractsOf, monthsOf}
 use Rattle.book.specs.declared.Book.{Book}
 use Rattle.book.specs.Book.{todayIn, lastIn, viewProduct}
 use Rattle.ending.specs.declared.lead.Condition.{Condition}
-use Rattle.ending.specs.declared.lead.Condition.the-variants.{Trigger, Holding, AtExpanded}
+use Rattle.ending.specs.declared.lead.Condition.the-variants.{Trigger, AtLeastInitial, AtExpanded}
 use Rattle.ending.specs.declared.lead.Found.{Found}
 use Rattle.ending.specs.declared.lead.Found.the-variants.{At, Nobody}
 
 abbrev pub meets : Condition → Move → Bool
 meets Trigger m = isTrigger m
-meets Holding m = isHolding m
+meets AtLeastInitial m = isAtLeastInitial m
 meets AtExpanded m = isAtExpanded m
+
+-- of a product's moves, those that can lead the event
+abbrev pub candidates : Condition → List Move → List Move
+candidates condition ms = keep (meets condition) ms
+
+-- the leading contract from the moves of each product
+abbrev pub leadFor : Condition → List (List Move) → Option Lead
+leadFor condition mss = leading (concatMap (candidates condition) mss)
 
 -- what the search answers for a leading contract or none
 abbrev pub foundAs : Option Lead → Found
 foundAs none = Nobody
 foundAs (some l) = At l
 
--- the moves of some products of a book
-unfoldable pub movesOf : Book → TradeDate → List ℕ → List Move
-movesOf b date ps = concatMap (productMoves (isSpot date)) (map (viewProduct b) ps)
+-- the moves of each of some products of a book
+unfoldable pub movesOf : Book → TradeDate → List ℕ → List (List Move)
+movesOf b date ps = map (productMoves (isSpot date)) (map (viewProduct b) ps)
 
 -- what the search asks of a book's sheets, which every sound book has
 pub record Readable (b : Book) : Type 0 where

@@ -9,7 +9,7 @@ use Rattle.grain.specs.Lists.{distance}
 use Rattle.grain.specs.Products.{firstOf}
 use Rattle.record.specs.declared.Contract.{Contract}
 use Rattle.record.specs.State.{settlementOn}
-use Rattle.record.specs.End.{Move}
+use Rattle.record.specs.Move.{Move}
 use Rattle.grain.specs.declared.spot.TradeDate.{TradeDate}
 use Rattle.grain.specs.Spot.{isSpot}
 use Rattle.sheets.specs.declared.Sheet.{Sheet}

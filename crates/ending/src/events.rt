@@ -2,14 +2,14 @@
 ghost use mathlib.Core.Path.{_≡_};
 ghost use mathlib.Core.List.{map};
 ghost use Prim.Native.Nat.{_<_};
-ghost use Rattle.record.specs.Choices.{keep};
-ghost use Rattle.record.specs.End.{leading, ledBy, isHolding, eventOf};
+ghost use Rattle.record.specs.End.{ledBy, eventOf};
 ghost use Rattle.record.specs.declared.Event.the-variants.{Held, Reverted};
 ghost use Rattle.record.specs.History.{productsOf};
 ghost use Rattle.record.specs.State.{groupCount, initial, expanded};
 ghost use Rattle.book.specs.Book.{standingIn};
 ghost use Rattle.book.specs.Numbers.{allGroups};
-ghost use Rattle.ending.specs.Lead.{meets, foundAs, movesOf, Readable};
+ghost use Rattle.ending.specs.Lead.{foundAs, leadFor, movesOf, Readable};
+ghost use Rattle.ending.specs.declared.lead.Condition.the-variants.{AtLeastInitial};
 ghost use Rattle.ending.specs.Ends.{eventIn, eventsOf};
 use crate::lead::Condition;
 use crate::lead::Found;
@@ -22,7 +22,7 @@ use record::GroupEvent;
 
 pub(crate) fn leading_in(b: Book, date: TradeDate, condition: Condition, g: usize) -> Found
     requires { ⌜ (g < groupCount) × Readable b ⌝ }
-    ensures { λ r. ⌜ r ≡ foundAs (leading (keep (meets condition) (movesOf b date (productsOf g)))) ⌝ }
+    ensures { λ r. ⌜ r ≡ foundAs (leadFor condition (movesOf b date (productsOf g))) ⌝ }
 {
     let first = book::products_before(g);
     let past = book::products_before(g + 1);
@@ -42,9 +42,9 @@ fn initial_event(b: Book, date: TradeDate, g: usize) -> Event
 // Of an expanded group that is not raised.
 fn held_or_reverted(b: Book, date: TradeDate, g: usize) -> Event
     requires { ⌜ (g < groupCount) × Readable b ⌝ }
-    ensures { λ r. ⌜ r ≡ ledBy (leading (keep isHolding (movesOf b date (productsOf g)))) Held Reverted ⌝ }
+    ensures { λ r. ⌜ r ≡ ledBy (leadFor AtLeastInitial (movesOf b date (productsOf g))) Held Reverted ⌝ }
 {
-    let Found::At(at) = leading_in(b, date, Condition::Holding, g) else {
+    let Found::At(at) = leading_in(b, date, Condition::AtLeastInitial, g) else {
         return Event::Reverted;
     };
     Event::Held(at)

@@ -3,7 +3,7 @@ ghost use mathlib.Core.Path.{_≡_};
 ghost use Prim.Native.Nat.{ℕ, _<_};
 ghost use lib.ListN.{getD};
 ghost use Rattle.grain.specs.Lists.{any};
-ghost use Rattle.record.specs.End.{isAtExpanded};
+ghost use Rattle.record.specs.Move.{isAtExpanded};
 ghost use Rattle.record.specs.History.{productsOf};
 ghost use Rattle.record.specs.State.{groupCount};
 ghost use Rattle.book.specs.Book.{noStanding};
@@ -50,7 +50,7 @@ fn standing_after(event: Event, reached: bool) -> Standing
 // One of the group moved by exactly E.
 fn is_at_expanded(b: Book, date: TradeDate, g: usize) -> bool
     requires { ⌜ (g < groupCount) × Readable b ⌝ }
-    ensures { λ r. ⌜ r ≡ any isAtExpanded (movesOf b date (productsOf g)) ⌝ }
+    ensures { λ r. ⌜ r ≡ any (any isAtExpanded) (movesOf b date (productsOf g)) ⌝ }
 {
     let Found::At(_) = leading_in(b, date, Condition::AtExpanded, g) else {
         return false;
@@ -61,7 +61,7 @@ fn is_at_expanded(b: Book, date: TradeDate, g: usize) -> bool
 // A move of exactly E is looked for only in a held group: no other event can set the mark.
 fn standing_in(b: Book, date: TradeDate, event: Event, g: usize) -> Standing
     requires { ⌜ (g < groupCount) × Readable b ⌝ }
-    ensures { λ r. ⌜ r ≡ standingAfter event (any isAtExpanded (movesOf b date (productsOf g))) ⌝ }
+    ensures { λ r. ⌜ r ≡ standingAfter event (any (any isAtExpanded) (movesOf b date (productsOf g))) ⌝ }
 {
     let Event::Held(_) = event else {
         return standing_after(event, false);

@@ -358,7 +358,7 @@ leadsByEvent = in-one-run _ _ _ _ refl
 -- a move beyond I at the initial level is not exactly I: quiet
 pub beyondInitial :
     eventOf initial false
-    (record { month = jul24; product = corn; isFirst = true; size = 202; initialLimit = 200; expandedLimit = 320 } ∷ [])
+    ((record { month = jul24; product = corn; isFirst = true; size = 202; initialLimit = 200; expandedLimit = 320 } ∷ []) ∷ [])
     ≡ Quiet
 unfolding stateOf
 beyondInitial = refl
@@ -366,7 +366,7 @@ beyondInitial = refl
 -- a move beyond E is not exactly E: held where the ended day before is marked, not raised
 pub beyondExpanded :
     eventOf expanded true
-    (record { month = jul24; product = corn; isFirst = true; size = 322; initialLimit = 200; expandedLimit = 320 } ∷ [])
+    ((record { month = jul24; product = corn; isFirst = true; size = 322; initialLimit = 200; expandedLimit = 320 } ∷ []) ∷ [])
     ≡ Held (lead corn jul24)
 unfolding stateOf
 beyondExpanded = refl

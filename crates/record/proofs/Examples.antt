@@ -18,7 +18,8 @@ use Rattle.record.specs.Founding.{Start, foundProduct, foundGroup, found
 use Rattle.record.specs.Opening.{isTrueDay, openingTests, isRenewed, openProduct, hasNewLimits, openGroup}
 use Rattle.record.specs.Sheet.{isMisshapen, hasBadMonth, hasBadSettlement, lacksContract, isBeyond, sheetTests, fileProduct, fileGroup}
 use Rattle.record.specs.Window.{collectedMonth, windowAfter}
-use Rattle.record.specs.End.{Event, Quiet, Lead, productMoves, groupMoves, eventOf, groupEvent, endProduct, endGroup}
+use Rattle.record.specs.Move.{productMoves, groupMoves}
+use Rattle.record.specs.End.{Event, Quiet, Lead, eventOf, groupEvent, endProduct, endGroup}
 use Rattle.record.specs.Check.{termsTests, orderTests, judged}
 use Rattle.record.specs.Sound.{isSoundSheet, isSoundWindow, isSoundProduct, isSoundGroup, isSoundDate, isSound}
 use Rattle.record.specs.Record.{Call, opening, sheet, end, Answer, refused, opened, filed, ended, checked, isOutstanding, tests, refusal, answer, nextCommon, nextGroup, next, Result, respond, stateAfter, answers}

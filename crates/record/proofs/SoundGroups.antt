@@ -12,7 +12,8 @@ use Rattle.record.specs.State.{Day, Sheet, Level, initial, Group, Common
 use Rattle.record.specs.Founding.{Start, limitOf, foundProduct, foundGroup}
 use Rattle.record.specs.Opening.{hasNewLimits, openProduct, openGroup}
 use Rattle.record.specs.Sheet.{fileProduct, fileGroup}
-use Rattle.record.specs.End.{Event, Quiet, Triggered, Held, Reverted, Raised, levelAfter, markAfter, isAtExpanded, groupMoves, groupEvent, endProduct, endGroup}
+use Rattle.record.specs.Move.{isAtExpanded, groupMoves}
+use Rattle.record.specs.End.{Event, Quiet, Triggered, Held, Reverted, Raised, levelAfter, markAfter, groupEvent, endProduct, endGroup}
 use Rattle.record.specs.Sound.{isSoundSheet, isSoundProduct, isExpanded, isSoundGroup}
 use Rattle.record.proofs.SoundProducts.{found-sound, open-sound, file-sound, end-sound}
 
@@ -51,5 +52,5 @@ unfolding isSoundGroup endGroup
 end-group c g t =
     let d = dayOf c in
     let e = groupEvent c g in
-    both _ _ (marked-expanded e (any isAtExpanded (groupMoves d g)))
+    both _ _ (marked-expanded e (any (any isAtExpanded) (groupMoves d g)))
     (every-map _ (endProduct d e) isSoundProduct (end-sound d e) (g .products) (and-right _ _ t))

@@ -1,69 +1,18 @@
 -- The end of a day: for each group its event with the leading contract, its level, mark and limits.
-use Prim.Native.Nat.{ℕ, pred}
-use mathlib.Core.Bool.{Bool, true, false, not, _&&_, _||_, cond}
-use mathlib.Core.List.{List, [], _∷_, _++_, map}
+use mathlib.Core.Bool.{Bool, true, false, _&&_, _||_, cond}
+use mathlib.Core.List.{List, [], _∷_, map}
 use mathlib.Core.Option.{Option, some, none}
-use lib.Dec.{leb, ltb, eqb}
-use Rattle.grain.specs.Lists.{any, distance}
-use Rattle.grain.specs.Products.{firstOf}
+use lib.Dec.{ltb, eqb}
+use Rattle.grain.specs.Lists.{any}
 use Rattle.grain.specs.Amounts.{expandedOf}
 use Rattle.record.specs.Choices.{keep, concatMap}
+use Rattle.record.specs.State.{Day, Level, initial, expanded, Product, Group, Common, withLevel, withMark, withProducts, withLimits, withWindow, withSheets, dayOf, sheetOr}
 use Rattle.record.specs.Window.{windowAfter}
-use Rattle.record.specs.State.{Day, Contract, Sheet, Level, initial, expanded, Product, Group, Common, withLevel, withMark, withProducts, withLimits, withWindow, withSheets, dayOf, isSpotOn, sheetOr, settlementOn}
+use Rattle.record.specs.Move.{Move, groupMoves, isTrigger, isAtLeastInitial, isAtExpanded}
 -- the leading contract, and a group's event with it
 pub use Rattle.record.specs.declared.Lead.{Lead}
 pub use Rattle.record.specs.declared.Event.{Event}
 pub use Rattle.record.specs.declared.Event.the-variants.{Quiet, Triggered, Held, Reverted, Raised}
-
--- A non-spot contract that has a change.
-pub record Move : Type 0 where
-  pub month : ℕ
-  pub product : ℕ
-  -- it is within its product's first N non-spot contracts
-  pub isFirst : Bool
-  -- how far it moved, up or down
-  pub size : ℕ
-  -- I and E of its product
-  pub initialLimit : ℕ
-  pub expandedLimit : ℕ
-
--- a contract that is not on the last ended sheet has no change
-abbrev pub moveFrom : Product → Bool → Contract → Option ℕ → List Move
-moveFrom q isFirst c none = []
-moveFrom q isFirst c (some before) =
-    record {
-      month = c .month;
-      product = q .number;
-      isFirst = isFirst;
-      size = distance (c .settlement) before;
-      initialLimit = q .initialLimit;
-      expandedLimit = q .expandedLimit;
-    }
-    ∷ []
-
--- the moves of non-spot contracts, of which the first n can trigger
-abbrev pub movesAmong : Product → ℕ → Sheet → List Move
-movesAmong q n [] = []
-movesAmong q n (c ∷ s) =
-    moveFrom q (ltb 0 n) c (settlementOn (sheetOr (q .last)) (c .month)) ++ movesAmong q (pred n) s
-
-unfoldable pub productMoves : (ℕ → Bool) → Product → List Move
-productMoves spot q = movesAmong q (firstOf (q .number)) (keep (λ c. not (spot (c .month))) (sheetOr (q .today)))
-
-unfoldable pub groupMoves : Day → Group → List Move
-groupMoves d g = concatMap (productMoves (isSpotOn d)) (g .products)
-
--- exactly I, within the first N
-abbrev pub isTrigger : Move → Bool
-isTrigger m = m .isFirst && eqb (m .size) (m .initialLimit)
-
--- I or more
-abbrev pub isHolding : Move → Bool
-isHolding m = leb (m .initialLimit) (m .size)
-
--- exactly E
-abbrev pub isAtExpanded : Move → Bool
-isAtExpanded m = eqb (m .size) (m .expandedLimit)
 
 -- the nearer month, then the lower product number
 abbrev pub isAhead : Lead → Lead → Bool
@@ -84,13 +33,16 @@ ledBy none event other = other
 ledBy (some l) event other = event l
 
 -- those that raise: exactly E, where the ended day before is marked
-abbrev pub raising : Bool → List Move → List Move
-raising true ms = keep isAtExpanded ms
-raising false ms = []
+abbrev pub raising : Bool → List (List Move) → List Move
+raising true mss = concatMap (keep isAtExpanded) mss
+raising false mss = []
 
-unfoldable pub eventOf : Level → Bool → List Move → Event
-eventOf initial mark ms = ledBy (leading (keep isTrigger ms)) Triggered Quiet
-eventOf expanded mark ms = ledBy (leading (raising mark ms)) Raised (ledBy (leading (keep isHolding ms)) Held Reverted)
+-- from the moves of each product: an event's candidates are found in each, and are led together
+unfoldable pub eventOf : Level → Bool → List (List Move) → Event
+eventOf initial mark mss = ledBy (leading (concatMap (keep isTrigger) mss)) Triggered Quiet
+eventOf expanded mark mss =
+    ledBy (leading (raising mark mss)) Raised
+    (ledBy (leading (concatMap (keep isAtLeastInitial) mss)) Held Reverted)
 
 unfoldable pub groupEvent : Common → Group → Event
 groupEvent c g = eventOf (g .level) (g .mark) (groupMoves (dayOf c) g)
@@ -129,4 +81,4 @@ endGroup c g =
     let d = dayOf c in
     let e = groupEvent c g in
     withLevel (levelAfter e)
-    (withMark (markAfter e (any isAtExpanded (groupMoves d g))) (withProducts (map (endProduct d e) (g .products)) g))
+    (withMark (markAfter e (any (any isAtExpanded) (groupMoves d g))) (withProducts (map (endProduct d e) (g .products)) g))

@@ -5,6 +5,7 @@ pub mod Founding
 pub mod Opening
 pub mod Sheet
 pub mod Window
+pub mod Move
 pub mod End
 pub mod Check
 pub mod Sound

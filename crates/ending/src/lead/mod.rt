@@ -2,10 +2,8 @@
 ghost use mathlib.Core.Path.{_≡_};
 ghost use Prim.Native.Nat.{_≤_, _-_};
 ghost use Rattle.grain.specs.Products.{productCount};
-ghost use Rattle.record.specs.Choices.{keep};
-ghost use Rattle.record.specs.End.{leading as leadOf};
 ghost use Rattle.book.specs.Numbers.{numbersFrom};
-ghost use Rattle.ending.specs.Lead.{meets, foundAs, movesOf, Readable};
+ghost use Rattle.ending.specs.Lead.{foundAs, leadFor, movesOf, Readable};
 use book::Book;
 use grain::TradeDate;
 use months::next_in;
@@ -20,7 +18,7 @@ pub enum Condition {
     // Exactly I, within the first N.
     Trigger,
     // I or more.
-    Holding,
+    AtLeastInitial,
     // Exactly E.
     AtExpanded,
 }
@@ -33,7 +31,7 @@ pub enum Found {
 // The leading contract of products lo to hi, hi not among them.
 pub(crate) fn leading(b: Book, date: TradeDate, condition: Condition, lo: usize, hi: usize) -> Found
     requires { ⌜ (lo ≤ hi) × (hi ≤ productCount) × Readable b ⌝ }
-    ensures { λ r. ⌜ r ≡ foundAs (leadOf (keep (meets condition) (movesOf b date (numbersFrom lo (hi - lo))))) ⌝ }
+    ensures { λ r. ⌜ r ≡ foundAs (leadFor condition (movesOf b date (numbersFrom lo (hi - lo)))) ⌝ }
 {
     // In the date's month every contract is spot: the first turn only finds the next month.
     let mut month = date.month;

@@ -67,7 +67,7 @@ pub(crate) fn meets_in(
             }
             count_earlier(current, month, date) < grain::first_contracts(product)
         }
-        Condition::Holding => limit.initial <= size,
+        Condition::AtLeastInitial => limit.initial <= size,
         Condition::AtExpanded => size == limit.expanded,
     }
 }

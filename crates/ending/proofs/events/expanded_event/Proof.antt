@@ -1,9 +1,9 @@
 use borrow.Author.Needs.{needs}
 use borrow.Author.Tests.{not-true, not-false}
-use Rattle.record.specs.End.{leading, eventOf, isAtExpanded}
-use Rattle.record.specs.Choices.{keep}
+use Rattle.record.specs.End.{eventOf}
 use Rattle.record.specs.History.{productsOf}
-use Rattle.ending.specs.Lead.{movesOf}
+use Rattle.ending.specs.declared.lead.Condition.the-variants.{AtExpanded}
+use Rattle.ending.specs.Lead.{leadFor, movesOf}
 use Rattle.ending.proofs.Founds.{nobody, found-at}
 use Rattle.ending.proofs.events.expanded_event.Statement.{statement}
 use Rattle.ending.proofs.events.expanded_event.Tie as tie
@@ -34,7 +34,7 @@ returns-2 c =
     let k = c .before .before .before in
     let h = k .before in
     let a = h .before .args in
-    rw (not-false (a .marked) (h .if1 .left), nobody (leading (keep isAtExpanded (movesOf (a .b) (a .date) (productsOf (a .g))))) (k .leading-in .result) (k .leading-in .ensures) (c .before .enum-told .given .1))
+    rw (not-false (a .marked) (h .if1 .left), nobody (leadFor AtExpanded (movesOf (a .b) (a .date) (productsOf (a .g)))) (k .leading-in .result) (k .leading-in .ensures) (c .before .enum-told .given .1))
     (c .held-or-reverted2 .ensures)
 
 returns-3 : tie.Need-returns-3
@@ -43,7 +43,7 @@ returns-3 c =
     let k = c .before .before .before in
     let h = k .before in
     let a = h .before .args in
-    rw (not-false (a .marked) (h .if1 .left), found-at (leading (keep isAtExpanded (movesOf (a .b) (a .date) (productsOf (a .g))))) (k .leading-in .result) (k .leading-in .ensures) _ (c .before .at .given .1))
+    rw (not-false (a .marked) (h .if1 .left), found-at (leadFor AtExpanded (movesOf (a .b) (a .date) (productsOf (a .g)))) (k .leading-in .result) (k .leading-in .ensures) _ (c .before .at .given .1))
 
 pub expanded-event-spec : {M : Type 1} → statement M
 expanded-event-spec =

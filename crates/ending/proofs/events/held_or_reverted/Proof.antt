@@ -1,8 +1,7 @@
 use borrow.Author.Needs.{needs}
-use Rattle.record.specs.End.{leading, isHolding}
-use Rattle.record.specs.Choices.{keep}
 use Rattle.record.specs.History.{productsOf}
-use Rattle.ending.specs.Lead.{movesOf}
+use Rattle.ending.specs.declared.lead.Condition.the-variants.{AtLeastInitial}
+use Rattle.ending.specs.Lead.{leadFor, movesOf}
 use Rattle.ending.proofs.Founds.{nobody, found-at}
 use Rattle.ending.proofs.events.held_or_reverted.Statement.{statement}
 use Rattle.ending.proofs.events.held_or_reverted.Tie as tie
@@ -20,13 +19,13 @@ returns : tie.Need-returns
 returns c =
     let k = c .before .before in
     let a = k .before .args in
-    rw (nobody (leading (keep isHolding (movesOf (a .b) (a .date) (productsOf (a .g))))) (k .leading-in .result) (k .leading-in .ensures) (c .enum-told .given .1))
+    rw (nobody (leadFor AtLeastInitial (movesOf (a .b) (a .date) (productsOf (a .g)))) (k .leading-in .result) (k .leading-in .ensures) (c .enum-told .given .1))
 
 returns-2 : tie.Need-returns-2
 returns-2 c =
     let k = c .before .before .before in
     let a = k .before .args in
-    rw (found-at (leading (keep isHolding (movesOf (a .b) (a .date) (productsOf (a .g))))) (k .leading-in .result) (k .leading-in .ensures) _ (c .before .at .given .1))
+    rw (found-at (leadFor AtLeastInitial (movesOf (a .b) (a .date) (productsOf (a .g)))) (k .leading-in .result) (k .leading-in .ensures) _ (c .before .at .given .1))
 
 pub held-or-reverted-spec : {M : Type 1} → statement M
 held-or-reverted-spec =

@@ -1,8 +1,8 @@
 use borrow.Author.Needs.{needs}
-use Rattle.record.specs.End.{leading, eventOf, isTrigger}
-use Rattle.record.specs.Choices.{keep}
+use Rattle.record.specs.End.{eventOf}
 use Rattle.record.specs.History.{productsOf}
-use Rattle.ending.specs.Lead.{movesOf}
+use Rattle.ending.specs.declared.lead.Condition.the-variants.{Trigger}
+use Rattle.ending.specs.Lead.{leadFor, movesOf}
 use Rattle.ending.proofs.Founds.{nobody, found-at}
 use Rattle.ending.proofs.events.initial_event.Statement.{statement}
 use Rattle.ending.proofs.events.initial_event.Tie as tie
@@ -21,14 +21,14 @@ unfolding eventOf
 returns c =
     let k = c .before .before in
     let a = k .before .args in
-    rw (nobody (leading (keep isTrigger (movesOf (a .b) (a .date) (productsOf (a .g))))) (k .leading-in .result) (k .leading-in .ensures) (c .enum-told .given .1))
+    rw (nobody (leadFor Trigger (movesOf (a .b) (a .date) (productsOf (a .g)))) (k .leading-in .result) (k .leading-in .ensures) (c .enum-told .given .1))
 
 returns-2 : tie.Need-returns-2
 unfolding eventOf
 returns-2 c =
     let k = c .before .before .before in
     let a = k .before .args in
-    rw (found-at (leading (keep isTrigger (movesOf (a .b) (a .date) (productsOf (a .g))))) (k .leading-in .result) (k .leading-in .ensures) _ (c .before .at .given .1))
+    rw (found-at (leadFor Trigger (movesOf (a .b) (a .date) (productsOf (a .g)))) (k .leading-in .result) (k .leading-in .ensures) _ (c .before .at .given .1))
 
 pub initial-event-spec : {M : Type 1} → statement M
 initial-event-spec =

@@ -1,5 +1,5 @@
 use borrow.Author.Needs.{needs}
-use Rattle.record.specs.End.{isAtExpanded}
+use Rattle.record.specs.Move.{isAtExpanded}
 use Rattle.record.specs.History.{productsOf}
 use Rattle.ending.specs.Lead.{movesOf}
 use Rattle.ending.proofs.Founds.{nobody-moved, one-moved}

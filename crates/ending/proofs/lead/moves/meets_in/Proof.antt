@@ -7,7 +7,7 @@ use borrow.Author.Tests.{eq-eqb, ne-eqb}
 use Rattle.grain.specs.Spot.{isSpot}
 use Rattle.grain.specs.Products.{firstOf}
 use Rattle.record.specs.State.{settlementOn}
-use Rattle.record.specs.End.{Move}
+use Rattle.record.specs.Move.{Move}
 use Rattle.sheets.specs.Sheets.{entriesOf, contractsOf}
 use Rattle.sheets.proofs.Rest.{counted}
 use Rattle.sheets.proofs.Lookups.{is-none, is-some}
