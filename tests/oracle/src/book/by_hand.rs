@@ -1,6 +1,7 @@
 //! Days by hand in June 2024, for the tests of the book.
 
-use super::end::{Contract, Event};
+use super::end::Event;
+use super::moves::Contract;
 use super::opening::NewLimits;
 use super::{Book, Level, Standing, GROUP_COUNT};
 use crate::products::PRODUCTS;

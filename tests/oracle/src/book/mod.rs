@@ -1,9 +1,11 @@
 //! The daily price limit book: founding, opening, sheet, end and check.
 
 pub mod check;
+pub mod edition_2023;
 pub mod end;
 pub mod found;
 pub mod groups;
+pub mod moves;
 pub mod opening;
 pub mod sheet;
 pub mod sound;

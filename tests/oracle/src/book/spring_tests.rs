@@ -1,7 +1,8 @@
 //! From February into May 2024 by calls alone: windows that just fill or just do not, on groups that are expanded.
 
 use super::by_hand::{contracts, CORN, EXPANDED, JULY, LIMITS, MARKED, MEAL, OATS};
-use super::end::{Contract, Event};
+use super::end::Event;
+use super::moves::Contract;
 use super::{Book, Entry, Standing, GROUP_COUNT};
 use crate::dates::Date;
 use crate::refusal::Refusal;

@@ -3,8 +3,9 @@
 use super::by_hand::{
     contract, Change, Trial, CHICAGO_WHEAT, CORN, EXPANDED, KC_WHEAT, LIMITS, MARKED, OATS,
 };
-use super::end::{Contract, Event};
+use super::end::Event;
 use super::groups::{group_of, WHEATS};
+use super::moves::Contract;
 use super::{Limits, Standing, GROUP_COUNT};
 
 const INITIAL: Standing = Standing::INITIAL;

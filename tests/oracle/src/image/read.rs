@@ -1,7 +1,8 @@
 //! From an image to the book that it holds, and to what the last calls answered.
 
 use super::{ContractWords, EventWords, Image, SheetWords, StandingWords, FORMAT};
-use crate::book::end::{Contract, Event};
+use crate::book::end::Event;
+use crate::book::moves::Contract;
 use crate::book::opening::NewLimits;
 use crate::book::{Book, Entry, Level, Limits, Sheet, Standing, GROUP_COUNT, PRODUCT_COUNT};
 

@@ -2,7 +2,8 @@
 
 use super::{ContractWords, EventWords, Image, LimitWords, SheetWords, StandingWords, WindowWords};
 use super::{FORMAT, WORDS};
-use crate::book::end::{Contract, Event};
+use crate::book::end::Event;
+use crate::book::moves::Contract;
 use crate::book::opening::NewLimits;
 use crate::book::sheet::LARGEST_SHEET;
 use crate::book::window::LARGEST_WINDOW;

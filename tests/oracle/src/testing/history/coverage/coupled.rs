@@ -1,10 +1,10 @@
 //! What groups of several products reached: which of them moved the others, by its own amounts, and which led.
 
-use super::event::{is_first, Event};
+use super::event::Event;
 use super::{Coverage, Seen};
 use crate::amounts::LARGEST_LIMIT;
-use crate::book::end::Contract;
 use crate::book::groups::{group_of, COMPLEX, COUPLED, WHEATS};
+use crate::book::moves::Contract;
 use crate::book::{Book, Level, GROUPS, GROUP_COUNT, PRODUCT_COUNT};
 
 /// The events that have a leading contract.
@@ -115,17 +115,17 @@ pub fn observe(coverage: &mut Coverage, seen: &Seen, event: &Event) {
     if !COUPLED.contains(&event.group) {
         return;
     }
-    observe_met(coverage, seen.before, event);
+    observe_met(coverage, event);
     observe_raise(coverage, seen, event);
     observe_own(coverage, seen, event);
 }
 
-fn observe_met(coverage: &mut Coverage, book: &Book, event: &Event) {
+fn observe_met(coverage: &mut Coverage, event: &Event) {
     let Some(lead) = event.lead() else {
         return;
     };
     coverage.count(lead_key(event.name(), lead.product));
-    let mut others = event.met(book);
+    let mut others = event.met();
     others.retain(|one| one.product != lead.product);
     if others.is_empty() {
         return coverage.count(alone_key(event.name(), lead.product));
@@ -149,7 +149,7 @@ fn observe_raise(coverage: &mut Coverage, seen: &Seen, event: &Event) {
     let marking = only(GROUPS[event.group], |product| {
         coverage.last_end.at_e[product]
     });
-    let met = event.met(seen.before);
+    let met = event.met();
     let raising = only(GROUPS[event.group], |product| {
         met.iter().any(|one| one.product == product)
     });
@@ -185,9 +185,9 @@ fn observe_own(coverage: &mut Coverage, seen: &Seen, event: &Event) {
         let product = one.contract.product;
         let is_others_i = others(product).any(|other| one.size == limits[other].initial);
         let is_others_e = others(product).any(|other| one.size == limits[other].expanded);
-        let is_enough = one.size >= limits[product].initial;
+        let is_enough = one.size >= one.limits.initial;
         match event.name() {
-            "quiet" if is_others_i && is_first(one) => coverage.count(quiet_key(product)),
+            "quiet" if is_others_i && one.is_first() => coverage.count(quiet_key(product)),
             "held" if is_others_e && is_enough && !is_marked => {
                 coverage.count(unmarked_key(product));
             }
@@ -197,7 +197,7 @@ fn observe_own(coverage: &mut Coverage, seen: &Seen, event: &Event) {
 }
 
 /// Takes note of the whole day, of which the next calls are judged.
-pub fn observe_day(coverage: &mut Coverage, book: &Book, events: &[Event]) {
+pub fn observe_day(coverage: &mut Coverage, events: &[Event]) {
     for triggered in events.iter().filter(|event| event.name() == "triggered") {
         let quiet = events.iter().filter(|event| event.name() == "quiet");
         for other in quiet.filter(|other| [other.group, triggered.group].contains(&WHEATS)) {
@@ -208,9 +208,8 @@ pub fn observe_day(coverage: &mut Coverage, book: &Book, events: &[Event]) {
     coverage.last_end = LastEnd::default();
     for one in moves {
         let product = one.contract.product;
-        let limits = book.limits[product];
-        coverage.last_end.moved[product] |= one.size >= limits.initial;
-        coverage.last_end.at_e[product] |= one.size == limits.expanded;
+        coverage.last_end.moved[product] |= one.size >= one.limits.initial;
+        coverage.last_end.at_e[product] |= one.is_by_expanded();
     }
 }
 

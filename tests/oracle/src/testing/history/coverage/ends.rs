@@ -1,9 +1,9 @@
 //! What ends reached: events with their leads and edges, and windows.
 
-use super::event::{is_first, Event};
+use super::event::Event;
 use super::seasons::Turn;
 use super::{coupled, Coverage, Seen};
-use crate::book::end::Move;
+use crate::book::moves::Move;
 use crate::book::window::{collected_contract, LARGEST_WINDOW};
 use crate::book::{Book, Level, GROUPS, GROUP_COUNT, PRODUCT_COUNT};
 use crate::dates::{is_spot, Date};
@@ -88,11 +88,11 @@ pub fn observe(coverage: &mut Coverage, seen: &Seen) {
     for event in &events {
         observe_event(coverage, seen, event);
         observe_turn(coverage, seen, event);
-        observe_edges(coverage, seen.before, event);
+        observe_edges(coverage, event);
         observe_spot(coverage, seen.before, event, (date, left));
         coupled::observe(coverage, seen, event);
     }
-    coupled::observe_day(coverage, seen.before, &events);
+    coupled::observe_day(coverage, &events);
     for product in 0..PRODUCT_COUNT {
         observe_window(coverage, seen.before, product, date);
     }
@@ -138,9 +138,8 @@ fn observe_turn(coverage: &mut Coverage, seen: &Seen, event: &Event) {
         }
         _ => {}
     }
-    let limits = |one: &Move| seen.before.limits[one.contract.product];
-    let is_at_e = moves.iter().any(|one| one.size == limits(one).expanded);
-    if !is_at_e || !coverage.dropped_marks[group] {
+    let is_by_e = moves.iter().any(Move::is_by_expanded);
+    if !is_by_e || !coverage.dropped_marks[group] {
         return;
     }
     coverage.dropped_marks[group] = false;
@@ -150,13 +149,12 @@ fn observe_turn(coverage: &mut Coverage, seen: &Seen, event: &Event) {
     );
 }
 
-fn observe_edges(coverage: &mut Coverage, book: &Book, event: &Event) {
+fn observe_edges(coverage: &mut Coverage, event: &Event) {
     let &Event { group, moves, .. } = event;
-    let limits = |one: &Move| book.limits[one.contract.product];
     let tick = |one: &Move| PRODUCTS[one.contract.product].standard_tick;
     let below = moves
         .iter()
-        .any(|one| one.size + tick(one) == limits(one).initial);
+        .any(|one| one.size + tick(one) == one.limits.initial);
     let mut edge = |happened: bool, place: usize| {
         coverage.count_if(happened, &event_key(group, EDGES[place]));
     };
@@ -166,7 +164,7 @@ fn observe_edges(coverage: &mut Coverage, book: &Book, event: &Event) {
         ("quiet", _) => {
             let mut past = moves
                 .iter()
-                .filter(|one| !is_first(one) && one.size == limits(one).initial);
+                .filter(|one| !one.is_first() && one.is_by_initial());
             edge(below, 0);
             edge(past.clone().next().is_some(), 1);
             edge(
@@ -178,10 +176,10 @@ fn observe_edges(coverage: &mut Coverage, book: &Book, event: &Event) {
             edge(lead.place + 1 == PRODUCTS[lead.contract.product].first, 3);
         }
         ("held", Some(lead)) => {
-            let holds = |one: &&Move| one.size >= limits(one).initial;
-            edge(lead.size == limits(lead).initial, 4);
-            edge(lead.size + tick(lead) == limits(lead).expanded, 5);
-            edge(!moves.iter().filter(holds).any(is_first), 6);
+            let holds = |one: &&Move| one.size >= one.limits.initial;
+            edge(lead.is_by_initial(), 4);
+            edge(lead.size + tick(lead) == lead.limits.expanded, 5);
+            edge(!moves.iter().filter(holds).any(Move::is_first), 6);
         }
         ("reverted", _) => edge(below, 7),
         _ => {}

@@ -1,8 +1,6 @@
 //! A group's event at an end, read from the answer.
 
-use crate::book::end::{Contract, Move};
-use crate::book::Book;
-use crate::products::PRODUCTS;
+use crate::book::moves::{Contract, Move};
 
 /// A group's event by its word, with the moves that it was made of.
 pub struct Event<'a> {
@@ -27,22 +25,14 @@ impl Event<'_> {
     }
 
     /// The contracts that meet the event's condition.
-    pub fn met(&self, book: &Book) -> Vec<Contract> {
-        let meets = |one: &&Move| {
-            let limits = book.limits[one.contract.product];
-            match self.name() {
-                "triggered" => is_first(one) && one.size == limits.initial,
-                "held" => one.size >= limits.initial,
-                "raised" => one.size == limits.expanded,
-                _ => false,
-            }
+    pub fn met(&self) -> Vec<Contract> {
+        let meets = |one: &&Move| match self.name() {
+            "triggered" => one.is_first() && one.is_by_initial(),
+            "held" => one.size >= one.limits.initial,
+            "raised" => one.is_by_expanded(),
+            _ => false,
         };
         let met = self.moves.iter().filter(meets);
         met.map(|one| one.contract).collect()
     }
-}
-
-/// Whether it is among the first N of its product, which can trigger.
-pub fn is_first(one: &Move) -> bool {
-    one.place < PRODUCTS[one.contract.product].first
 }
