@@ -1,9 +1,10 @@
-//! Where contracts settle on a day: moods that bring a group to each of its events.
+//! Where contracts settle on a day.
 
 use super::listing::{self, Custom};
+use super::moods::{self, Background, Mood, Size, Which};
 use super::pace::Phase;
 use crate::book::groups::group_of;
-use crate::book::{Book, Level, Limits, GROUPS, GROUP_COUNT};
+use crate::book::{Book, Limits, GROUPS, GROUP_COUNT};
 use crate::dates::is_spot;
 use crate::history::call::SheetCall;
 use crate::prices::{is_price, LARGEST_PRICE};
@@ -32,71 +33,6 @@ struct Line {
     /// Among the non-spot contracts of the sheet.
     place: usize,
 }
-
-/// How far contracts move that the mood does not single out.
-#[derive(Clone, Copy)]
-enum Background {
-    Still,
-    Small,
-    /// Up to today's limit.
-    Full,
-}
-
-/// Which contract the mood singles out.
-#[derive(Clone, Copy, PartialEq)]
-enum Which {
-    Any,
-    InFirst,
-    PastFirst,
-}
-
-/// By how much the singled-out contract moves.
-#[derive(Clone, Copy)]
-enum Size {
-    Initial,
-    Expanded,
-    BelowInitial,
-    BelowExpanded,
-    Between,
-    /// By today's limit of another product of the group, if that is lower.
-    OfAnother,
-}
-
-type Mood = (Background, Option<(Which, Size)>);
-
-const BY_I: Mood = (Background::Small, Some((Which::InFirst, Size::Initial)));
-const HELD: Mood = (Background::Small, Some((Which::Any, Size::Initial)));
-const BY_E: Mood = (Background::Small, Some((Which::Any, Size::Expanded)));
-
-const AT_INITIAL: [Mood; 11] = [
-    (Background::Small, None),
-    (Background::Small, None),
-    (Background::Still, None),
-    (Background::Full, None),
-    BY_I,
-    (Background::Still, Some((Which::InFirst, Size::Initial))),
-    (Background::Full, Some((Which::InFirst, Size::Initial))),
-    (Background::Small, Some((Which::PastFirst, Size::Initial))),
-    (Background::Still, Some((Which::PastFirst, Size::Initial))),
-    (Background::Small, Some((Which::Any, Size::BelowInitial))),
-    (Background::Small, Some((Which::InFirst, Size::OfAnother))),
-];
-
-const AT_EXPANDED: [Mood; 13] = [
-    BY_E,
-    (Background::Still, Some((Which::Any, Size::Expanded))),
-    (Background::Small, Some((Which::PastFirst, Size::Expanded))),
-    (Background::Full, Some((Which::Any, Size::Expanded))),
-    BY_E,
-    HELD,
-    (Background::Small, Some((Which::Any, Size::BelowExpanded))),
-    (Background::Small, Some((Which::PastFirst, Size::Between))),
-    (Background::Small, Some((Which::Any, Size::Between))),
-    (Background::Small, Some((Which::Any, Size::BelowInitial))),
-    (Background::Small, Some((Which::Any, Size::OfAnother))),
-    (Background::Still, None),
-    (Background::Full, None),
-];
 
 impl Market {
     /// The eight sheets of the open day, which the book accepts.
@@ -145,34 +81,20 @@ impl Market {
 
     fn mood(&self, random: &mut Random, book: &Book, group: usize) -> Mood {
         let level = book.standings[group].level;
-        if let Some(mood) = self.led(random, level) {
+        if let Some(mood) = moods::led(random, self.phase, level) {
             return mood;
         }
         if !random.one_in(self.calm) {
-            return (Background::Small, None);
+            return moods::CALM;
         }
-        let is_driven = self.is_driven(group) && !random.one_in(5);
-        match (level, is_driven) {
-            (Level::Initial, true) => BY_I,
-            (Level::Expanded, true) => BY_E,
-            (Level::Initial, false) => random.pick(&AT_INITIAL),
-            (Level::Expanded, false) => random.pick(&AT_EXPANDED),
+        match self.is_driven(group) && !random.one_in(5) {
+            true => moods::on(level),
+            false => moods::any(random, level),
         }
     }
 
     fn is_driven(&self, group: usize) -> bool {
         self.driver.is_some_and(|driver| group_of(driver) == group)
-    }
-
-    /// Expanded, marked or not, into another season, and there on to a raise.
-    fn led(&self, random: &mut Random, level: Level) -> Option<Mood> {
-        match (self.phase, level) {
-            (Phase::Middle, _) => None,
-            (_, Level::Initial) => Some(BY_I),
-            (Phase::Closing, Level::Expanded) => Some(HELD),
-            (Phase::Last, Level::Expanded) => Some(random.pick(&[HELD, BY_E])),
-            (Phase::Beginning, Level::Expanded) => Some(BY_E),
-        }
     }
 
     fn settlement(

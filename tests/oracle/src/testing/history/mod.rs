@@ -11,6 +11,7 @@ pub mod garbage;
 pub mod jobs;
 pub mod listing;
 pub mod market;
+pub mod moods;
 pub mod pace;
 pub mod scenario;
 pub mod sent_again;
