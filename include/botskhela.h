@@ -31,6 +31,10 @@
 #define BOTSKHELA_PRODUCTS 8u
 #define BOTSKHELA_GROUPS   5u
 
+/* Editions of the rule, by year. They differ in what triggers and holds a group, and only 2023 raises limits. */
+#define BOTSKHELA_EDITION_2014 2014u
+#define BOTSKHELA_EDITION_2023 2023u
+
 /* Sizes. Minis are offered for Corn, Soybeans and Chicago Wheat. */
 #define BOTSKHELA_STANDARD 0u
 #define BOTSKHELA_MINI     1u
@@ -58,6 +62,7 @@
 #define BOTSKHELA_NOT_LISTED        14u /* the month is not on the last ended sheet, or is past     */
 #define BOTSKHELA_TALLY_FULL        15u /* the tally has counted 4,294,967,295 checks               */
 #define BOTSKHELA_LEFT_NOT_SMALLER  16u /* left not smaller than at the last opening of that month  */
+#define BOTSKHELA_UNKNOWN_EDITION   17u /* a founding under neither edition                         */
 
 /* What an ended day did to a group. */
 #define BOTSKHELA_QUIET     0u /* the initial level stays                                          */
@@ -67,7 +72,7 @@
 #define BOTSKHELA_RAISED    4u /* back to the initial level, with the expanded limits as its limits */
 
 /* The format of the images that this library makes and takes. */
-#define BOTSKHELA_FORMAT 2u
+#define BOTSKHELA_FORMAT 3u
 
 /* A gateway's record. It begins with six zeros; only the tallied checks write it. */
 typedef struct botskhela_tally {
@@ -130,11 +135,11 @@ typedef struct botskhela_event {
  * The image of a book: a struct of 32-bit numbers without padding, which a program may copy, write to a file, read back and
  * send to another process of the same byte order. Every content is a legal argument.
  *
- * An image whose format is another, as that of books of six groups was, or one of whose flags (is_open, expanded, marked) is
- * neither 0 nor 1, holds no book; any other holds one, which may be unsound: a limit that is no limit, a sheet with a month
- * that the product does not trade, and so on. On an image with no book or an unsound one every call but a founding returns
- * BOTSKHELA_UNSOUND. A struct of zeros holds no book. Soundness is no checksum: a damaged image may well be a sound book with
- * another limit. Keep a checksum beside an image that leaves the program's memory, as examples/saved does.
+ * An image whose format is another, as that of books with no edition was, or one of whose flags (is_open, expanded, marked) is
+ * neither 0 nor 1, holds no book; any other holds one, which may be unsound: no edition of the rule, a limit that is no limit,
+ * a sheet with a month that the product does not trade, and so on. On an image with no book or an unsound one every call but a
+ * founding returns BOTSKHELA_UNSOUND. A struct of zeros holds no book. Soundness is no checksum: a damaged image may well be a
+ * sound book with another limit. Keep a checksum beside an image that leaves the program's memory, as examples/saved does.
  *
  * Read the fields as you like. Write them only by the calls.
  *
@@ -143,6 +148,8 @@ typedef struct botskhela_event {
  */
 typedef struct botskhela_book {
     uint32_t format; /* BOTSKHELA_FORMAT */
+
+    uint32_t edition; /* BOTSKHELA_EDITION_2014 or _2023, from the founding on */
 
     uint32_t is_open; /* 1 while a day is open, else 0 */
     uint32_t year;    /* of the last opened day, with its left; four zeros before the first */
@@ -171,20 +178,21 @@ typedef struct botskhela_book {
 #endif
 #define BOTSKHELA_AT(field, word) BOTSKHELA_ASSERT(offsetof(botskhela_book, field) == 4 * (word), #field)
 BOTSKHELA_AT(format, 0);
-BOTSKHELA_AT(is_open, 1);
-BOTSKHELA_AT(year, 2);
-BOTSKHELA_AT(month, 3);
-BOTSKHELA_AT(day, 4);
-BOTSKHELA_AT(left, 5);
-BOTSKHELA_AT(limits, 6);
-BOTSKHELA_AT(standings, 22);
-BOTSKHELA_AT(windows.counts, 32);
-BOTSKHELA_AT(windows.settlements, 40);
-BOTSKHELA_AT(today, 400);
-BOTSKHELA_AT(last, 664);
-BOTSKHELA_AT(renewed, 928);
-BOTSKHELA_AT(events, 936);
-BOTSKHELA_ASSERT(sizeof(botskhela_book) == 4 * 951, "botskhela_book");
+BOTSKHELA_AT(edition, 1);
+BOTSKHELA_AT(is_open, 2);
+BOTSKHELA_AT(year, 3);
+BOTSKHELA_AT(month, 4);
+BOTSKHELA_AT(day, 5);
+BOTSKHELA_AT(left, 6);
+BOTSKHELA_AT(limits, 7);
+BOTSKHELA_AT(standings, 23);
+BOTSKHELA_AT(windows.counts, 33);
+BOTSKHELA_AT(windows.settlements, 41);
+BOTSKHELA_AT(today, 401);
+BOTSKHELA_AT(last, 665);
+BOTSKHELA_AT(renewed, 929);
+BOTSKHELA_AT(events, 937);
+BOTSKHELA_ASSERT(sizeof(botskhela_book) == 4 * 952, "botskhela_book");
 BOTSKHELA_ASSERT(sizeof(botskhela_limit) == 4 * 2, "botskhela_limit");
 BOTSKHELA_ASSERT(sizeof(botskhela_standing) == 4 * 2, "botskhela_standing");
 BOTSKHELA_ASSERT(sizeof(botskhela_contract) == 4 * 2, "botskhela_contract");
@@ -272,14 +280,14 @@ uint32_t botskhela_tallied_check(botskhela_tally *tally, uint32_t product, uint3
  */
 
 /*
- * A fresh book with the eight initial limits, each a multiple of its product's step from its floor to 1,000,000. Nothing
- * that the pointer holds is looked at.
+ * A fresh book under an edition of the rule, with the eight initial limits, each a multiple of its product's step from its
+ * floor to 1,000,000. Nothing that the pointer holds is looked at.
  *
- * Refusals: BOTSKHELA_UNFIT_AMOUNT.
+ * Refusals: BOTSKHELA_UNKNOWN_EDITION, BOTSKHELA_UNFIT_AMOUNT.
  */
-uint32_t botskhela_found(botskhela_book *book, uint32_t corn, uint32_t soybeans, uint32_t soybean_oil,
-                         uint32_t soybean_meal, uint32_t chicago_wheat, uint32_t kc_wheat, uint32_t oats,
-                         uint32_t rough_rice);
+uint32_t botskhela_found(botskhela_book *book, uint32_t edition, uint32_t corn, uint32_t soybeans,
+                         uint32_t soybean_oil, uint32_t soybean_meal, uint32_t chicago_wheat, uint32_t kc_wheat,
+                         uint32_t oats, uint32_t rough_rice);
 
 /*
  * Opens a day. left is the number of business days of the month after it, so that within a month each opening has a smaller

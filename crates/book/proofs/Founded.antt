@@ -1,4 +1,4 @@
--- A book with a limit for each product and nothing else in it shows a founded Record.
+-- A book with an edition, a limit for each product and nothing else in it shows a founded Record.
 use Prim.Native.Nat.{ℕ, _<_}
 use mathlib.Core.Path.{_≡_, refl, sym, _∙_}
 use mathlib.Core.Bool.{true, false}
@@ -10,7 +10,7 @@ use Rattle.grain.specs.Lists.{_and_, every}
 use Rattle.grain.specs.Products.{productCount, isProduct}
 use Rattle.grain.specs.Amounts.{expandedOf, isFitFounding}
 use Rattle.record.specs.State.{groupTable, groupCount, noDay}
-use Rattle.record.specs.Founding.{Start, limitOf, isFitStart, foundProduct, foundGroup, founded}
+use Rattle.record.specs.Founding.{Start, limitOf, areFit, foundProduct, foundGroup, founded}
 use Rattle.record.specs.History.{productsOf}
 use Rattle.record.proofs.GroupTable.{small-products}
 use Rattle.sheets.specs.Sheets.{sheetIn}
@@ -25,16 +25,16 @@ use Rattle.book.proofs.Numbers.{map-same}
 use Rattle.book.proofs.Views.{shownGroup, groups-are, same-groups}
 
 -- 13 is asked of each product in turn
-pub fit-is : (s : Start) → length (s .limits) ≡ productCount → isFitStart s ≡ every (λ p. isFitFounding p (limitOf s p)) allProducts
-unfolding isFitStart groupTable _and_
-fit-is s long =
-    rw (eq-eqb (length (s .limits)) productCount long) (every-concat (λ p. isFitFounding p (limitOf s p)) (λ (ps : List ℕ). ps) groupTable)
+pub fit-is : (limits : List ℕ) → length limits ≡ productCount → areFit limits ≡ every (λ p. isFitFounding p (getD limits p 0)) allProducts
+unfolding areFit groupTable _and_
+fit-is limits long =
+    rw (eq-eqb (length limits) productCount long) (every-concat (λ p. isFitFounding p (getD limits p 0)) (λ (ps : List ℕ). ps) groupTable)
 
 -- the limits of a founded product
 abbrev pub limitsFrom : Start → ℕ → Limit
 limitsFrom s p = record { initial = limitOf s p; expanded = expandedOf p (limitOf s p) }
 
--- all but the limits is as in a book with nothing in it
+-- all but the edition and the limits is as in a book with nothing in it
 pub record Blank (b : Book) : Type 0 where
   pub standings : b .standings ≡ replicate groupCount noStanding
   pub windows : b .windows ≡ emptyWindows
@@ -42,6 +42,19 @@ pub record Blank (b : Book) : Type 0 where
   pub last : b .last ≡ replicate productCount emptySheet
   pub day : b .day ≡ noDay
   pub isOpen : b .«is_open» ≡ false
+
+-- so it is with another edition and other limits
+pub blank-with : (b : Book) → Blank b → (edition : ℕ) (limits : List Limit)
+    → Blank (record { edition = edition; limits = limits; standings = b .standings; windows = b .windows; today = b .today; last = b .last; day = b .day; «is_open» = b .«is_open» })
+blank-with b blank edition limits =
+    record {
+      standings = blank .standings;
+      windows = blank .windows;
+      today = blank .today;
+      last = blank .last;
+      day = blank .day;
+      isOpen = blank .isOpen;
+    }
 
 pub no-book-blank : Blank noBook
 unfolding noBook
@@ -59,7 +72,7 @@ empty-sheet : (p : ℕ) → p < productCount → sheetIn (getD (replicate produc
 unfolding sheetIn
 empty-sheet p l = rw (getD-replicate productCount p emptySheet noSheet l)
 
-module _ (b : Book) (s : Start) (blank : Blank b) (limits : (p : ℕ) → p < productCount → limitIn b p ≡ limitsFrom s p) where
+module _ (b : Book) (s : Start) (edition : b .edition ≡ s .edition) (blank : Blank b) (limits : (p : ℕ) → p < productCount → limitIn b p ≡ limitsFrom s p) where
   product-shown : (p : ℕ) → isProduct p ≡ true → viewProduct b p ≡ foundProduct s p
   unfolding viewProduct foundProduct
   product-shown p t =
@@ -81,4 +94,4 @@ module _ (b : Book) (s : Start) (blank : Blank b) (limits : (p : ℕ) → p < pr
   unfolding view viewCommon founded
   founded-shown =
       let groups = groups-are b ∙ same-groups (shownGroup b) (λ g. foundGroup s (productsOf g)) group-shown ∙ sym founded-groups in
-      rw (groups, blank .day, blank .isOpen)
+      rw (groups, edition, blank .day, blank .isOpen)

@@ -1,7 +1,7 @@
 -- The tests of soundness over a book's groups, as tests over the numbers of its products and of its groups.
 use Prim.Native.Nat.{ℕ}
 use mathlib.Core.Path.{_≡_, refl, _∙_, ap, ap₂}
-use mathlib.Core.Bool.{Bool, true, false, not, _||_}
+use mathlib.Core.Bool.{Bool, true, false, not, _&&_, _||_}
 use mathlib.Core.List.{List, map}
 use lib.Dec.{eqb}
 use Rattle.grain.specs.Lists.{_and_, every}
@@ -10,6 +10,7 @@ use Rattle.grain.specs.Amounts.{expandedOf, isFitAmount}
 use Rattle.grain.proofs.Every.{every-mapped}
 use Rattle.record.specs.Choices.{concatMap, isSome}
 use Rattle.record.specs.State.{Product, Group, groupTable}
+use Rattle.record.specs.Edition.{isEdition, conditionsOf}
 use Rattle.record.specs.Sound.{isSoundSheet, isSoundWindow, isSoundProduct, isExpanded, isSoundGroup, isSoundDate, everyProduct, isSound}
 use Rattle.record.specs.History.{productsOf}
 use Rattle.sheets.specs.Sheets.{sheetIn}
@@ -57,35 +58,42 @@ products-tests b =
     ∙ every-both (λ p. areItemsSound p (limitIn b p) (todayIn b p) (lastIn b p)) (isWindowSound (b .windows)) allProducts
 
 -- a mark only on an expanded group, of a group as it is shown
-abbrev isMarkShownSound : Group → Bool
-isMarkShownSound g = not (g .mark) || isExpanded (g .level)
+abbrev isMarkShownSound : Bool → Group → Bool
+isMarkShownSound marks g = not (g .mark) || (isExpanded (g .level) && marks)
 
 is-expanded : (e : Bool) → isExpanded (levelOf e) ≡ e
 is-expanded true = refl
 is-expanded false = refl
 
-mark-shown : (b : Book) (g : ℕ) (ps : List ℕ) → isMarkShownSound (viewGroup b g ps) ≡ isMarkSound (standingIn b g)
+mark-shown : (marks : Bool) (b : Book) (g : ℕ) (ps : List ℕ) → isMarkShownSound marks (viewGroup b g ps) ≡ isMarkSound marks (standingIn b g)
 unfolding viewGroup
-mark-shown b g ps = ap (λ (e : Bool). not (standingIn b g .marked) || e) (is-expanded (standingIn b g .expanded))
+mark-shown marks b g ps =
+    ap (λ (e : Bool). not (standingIn b g .marked) || (e && marks)) (is-expanded (standingIn b g .expanded))
 
-marks : (b : Book) → every isMarkShownSound (viewGroups b 0 groupTable) ≡ every (λ g. isMarkSound (standingIn b g)) allGroups
-marks b =
-    ap (every isMarkShownSound) (groups-are b)
-    ∙ every-mapped (λ g. isMarkSound (standingIn b g)) (shownGroup b) isMarkShownSound (λ g. mark-shown b g (productsOf g)) allGroups
+-- groups are marked in the edition of the book
+abbrev pub hasMarks : Book → Bool
+hasMarks b = conditionsOf (b .edition) .hasMarks
+
+marks-are : (b : Book)
+    → every (isMarkShownSound (hasMarks b)) (viewGroups b 0 groupTable) ≡ every (λ g. isMarkSound (hasMarks b) (standingIn b g)) allGroups
+marks-are b =
+    ap (every (isMarkShownSound (hasMarks b))) (groups-are b)
+    ∙ every-mapped (λ g. isMarkSound (hasMarks b) (standingIn b g)) (shownGroup b) (isMarkShownSound (hasMarks b)) (λ g. mark-shown (hasMarks b) b g (productsOf g)) allGroups
 
 pub groups-shown : (b : Book)
-    → every isSoundGroup (viewGroups b 0 groupTable)
-    ≡ every (λ g. isMarkSound (standingIn b g)) allGroups and every (λ p. isSoundProduct (viewProduct b p)) allProducts
+    → every (isSoundGroup (b .edition)) (viewGroups b 0 groupTable)
+    ≡ every (λ g. isMarkSound (hasMarks b) (standingIn b g)) allGroups and every (λ p. isSoundProduct (viewProduct b p)) allProducts
 unfolding isSoundGroup
 groups-shown b =
-    every-both isMarkShownSound (λ (g : Group). every isSoundProduct (g .products)) (viewGroups b 0 groupTable)
-    ∙ ap₂ _and_ (marks b) (flat b isSoundProduct)
+    every-both (isMarkShownSound (hasMarks b)) (λ (g : Group). every isSoundProduct (g .products)) (viewGroups b 0 groupTable)
+    ∙ ap₂ _and_ (marks-are b) (flat b isSoundProduct)
 
 -- the tests of a book, one after the other
 pub sound-is : (b : Book)
     → isSound (view b)
-    ≡ (isSoundDate (openedOf (b .day)) (b .«is_open»)
-    and (every (λ g. isMarkSound (standingIn b g)) allGroups and every (λ p. isSoundProduct (viewProduct b p)) allProducts)
+    ≡ (isEdition (b .edition)
+    and isSoundDate (openedOf (b .day)) (b .«is_open»)
+    and (every (λ g. isMarkSound (hasMarks b) (standingIn b g)) allGroups and every (λ p. isSoundProduct (viewProduct b p)) allProducts)
     and (b .«is_open» || every (λ p. not (isSome (sheetIn (todayIn b p)))) allProducts)
     and ((isSome (openedOf (b .day)) and every (λ p. isSome (sheetIn (lastIn b p))) allProducts)
     || every (λ p. not (isSome (sheetIn (lastIn b p)))) allProducts))
@@ -93,7 +101,7 @@ unfolding isSound view viewCommon viewProduct
 sound-is b =
     ap₂ _and_
     (ap₂ _and_
-    (ap (isSoundDate (openedOf (b .day)) (b .«is_open») and_) (groups-shown b))
+    (ap ((isEdition (b .edition) and isSoundDate (openedOf (b .day)) (b .«is_open»)) and_) (groups-shown b))
     (ap (b .«is_open» ||_) (flat b (λ q. not (isSome (q .today))))))
     (ap₂ _||_
     (ap (isSome (openedOf (b .day)) and_) (flat b (λ q. isSome (q .last))))
@@ -102,8 +110,9 @@ sound-is b =
 -- the same, the products' windows apart
 pub sound-tests : (b : Book)
     → isSound (view b)
-    ≡ (isSoundDate (openedOf (b .day)) (b .«is_open»)
-    and (every (λ g. isMarkSound (standingIn b g)) allGroups
+    ≡ (isEdition (b .edition)
+    and isSoundDate (openedOf (b .day)) (b .«is_open»)
+    and (every (λ g. isMarkSound (hasMarks b) (standingIn b g)) allGroups
     and (every (λ p. areItemsSound p (limitIn b p) (todayIn b p) (lastIn b p)) allProducts and every (isWindowSound (b .windows)) allProducts))
     and (b .«is_open» || every (λ p. not (isSome (sheetIn (todayIn b p)))) allProducts)
     and ((isSome (openedOf (b .day)) and every (λ p. isSome (sheetIn (lastIn b p))) allProducts)

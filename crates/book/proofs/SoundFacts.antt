@@ -77,7 +77,7 @@ facts b p t =
 
 module _ (b : Book) (sound : isSound (view b) ≡ true) where
   date-sound : isSoundDate (openedOf (b .day)) (b .«is_open») ≡ true
-  date-sound = and-left _ _ (and-left _ _ (and-left _ _ (sym (sound-is b) ∙ sound)))
+  date-sound = and-right _ _ (and-left _ _ (and-left _ _ (and-left _ _ (sym (sound-is b) ∙ sound))))
 
   module _ (p : ℕ) (l : p < productCount) where
     pub product-sound : isSoundProduct (viewProduct b p) ≡ true

@@ -72,7 +72,7 @@ viewGroups b g [] = []
 viewGroups b g (ps ∷ l) = viewGroup b g ps ∷ viewGroups b (suc g) l
 
 unfoldable pub viewCommon : Book → Common
-viewCommon b = record { opened = openedOf (b .day); isOpen = b .«is_open» }
+viewCommon b = record { edition = b .edition; opened = openedOf (b .day); isOpen = b .«is_open» }
 
 unfoldable pub view : Book → Record
 view b = record { common = viewCommon b; groups = viewGroups b 0 groupTable }

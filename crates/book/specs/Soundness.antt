@@ -1,7 +1,7 @@
 -- What the soundness test says of one product and of one group.
 -- For the functions inside, but for areAllIn, which the end of a day asks: what the test promises is the Record's isSound alone.
 use Prim.Native.Nat.{ℕ}
-use mathlib.Core.Bool.{Bool, not, _||_}
+use mathlib.Core.Bool.{Bool, not, _&&_, _||_}
 use mathlib.Core.List.{List}
 use lib.Dec.{leb, eqb}
 use lib.ListN.{length, getD}
@@ -34,9 +34,9 @@ areAllMissing sheets = every (λ p. not (hasSheet sheets p)) allProducts
 abbrev pub areLastSound : Day → List Sheet → Bool
 areLastSound d lasts = (isSome (openedOf d) and areAllIn lasts) || areAllMissing lasts
 
--- a mark only on an expanded group
-abbrev pub isMarkSound : Standing → Bool
-isMarkSound s = not (s .marked) || s .expanded
+-- a mark only on an expanded group, where there are marks
+abbrev pub isMarkSound : Bool → Standing → Bool
+isMarkSound marks s = not (s .marked) || (s .expanded && marks)
 
 -- the limits and the two sheets of product p
 abbrev pub areItemsSound : ℕ → Limit → Sheet → Sheet → Bool

@@ -1,17 +1,19 @@
-// A fresh book, from eight initial limits.
+// A fresh book, under an edition of the rule, from eight initial limits.
 ghost use mathlib.Core.Path.{_≡_};
-ghost use Rattle.record.specs.Founding.{isFitStart, founded};
+ghost use Rattle.record.specs.Founding.{areFit, founded};
 ghost use Rattle.book.specs.Book.{view};
-ghost use Rattle.book.specs.Founding.{noBook, Founds};
+ghost use Rattle.book.specs.Founding.{noBook, refusedBy, Founds};
 use crate::Book;
 use crate::Limit;
 use crate::Standing;
+use crate::editions::is_edition;
 use grain::PRODUCT_COUNT;
 use grain::refusals::UNFIT_AMOUNT;
 use record::Contract;
 use record::Day;
 use record::GROUP_COUNT;
 use record::MAX_CONTRACTS;
+use record::refusals::UNKNOWN_EDITION;
 use sheets::Sheet;
 use windows::Windows;
 
@@ -22,7 +24,7 @@ pub struct Founding {
 }
 
 fn are_fit(limits: [u32; PRODUCT_COUNT]) -> bool
-    ensures { λ r. ⌜ r ≡ isFitStart (record { limits = limits }) ⌝ }
+    ensures { λ r. ⌜ r ≡ areFit limits ⌝ }
 {
     for p in 0..PRODUCT_COUNT {
         if !grain::is_fit_founding(p as u32, limits[p]) {
@@ -32,7 +34,7 @@ fn are_fit(limits: [u32; PRODUCT_COUNT]) -> bool
     true
 }
 
-// The same fixed book always: all zeros, which is unsound, as no limit is 0.
+// The same fixed book always: all zeros, which is unsound, as 0 is no edition.
 fn no_book() -> Book
     ensures { λ r. ⌜ r ≡ noBook ⌝ }
 {
@@ -44,6 +46,7 @@ fn no_book() -> Book
         len: 0,
     };
     Book {
+        edition: 0,
         limits: [Limit {
             initial: 0,
             expanded: 0,
@@ -69,10 +72,11 @@ fn no_book() -> Book
 }
 
 // All groups at the initial level, with no day and no sheets.
-fn fresh(limits: [u32; PRODUCT_COUNT]) -> Book
-    ensures { λ r. ⌜ view r ≡ founded (record { limits = limits }) ⌝ }
+fn fresh(edition: u32, limits: [u32; PRODUCT_COUNT]) -> Book
+    ensures { λ r. ⌜ view r ≡ founded (record { edition = edition; limits = limits }) ⌝ }
 {
     let mut b = no_book();
+    b.edition = edition;
     for p in 0..PRODUCT_COUNT {
         let initial = limits[p];
         b.limits[p] = Limit {
@@ -83,17 +87,26 @@ fn fresh(limits: [u32; PRODUCT_COUNT]) -> Book
     b
 }
 
-pub fn found(limits: [u32; PRODUCT_COUNT]) -> Founding
-    ensures { λ r. ⌜ Founds (record { limits = limits }) r ⌝ }
+fn refused(refusal: u32) -> Founding
+    ensures { λ r. ⌜ r ≡ refusedBy refusal ⌝ }
 {
+    Founding {
+        refusal,
+        book: no_book(),
+    }
+}
+
+pub fn found(edition: u32, limits: [u32; PRODUCT_COUNT]) -> Founding
+    ensures { λ r. ⌜ Founds (record { edition = edition; limits = limits }) r ⌝ }
+{
+    if !is_edition(edition) {
+        return refused(UNKNOWN_EDITION);
+    }
     if !are_fit(limits) {
-        return Founding {
-            refusal: UNFIT_AMOUNT,
-            book: no_book(),
-        };
+        return refused(UNFIT_AMOUNT);
     }
     Founding {
         refusal: 0,
-        book: fresh(limits),
+        book: fresh(edition, limits),
     }
 }

@@ -6,6 +6,7 @@ use sheets::Sheet;
 use windows::Windows;
 
 mod dates;
+mod editions;
 mod founding;
 mod groups;
 mod limits;
@@ -13,6 +14,8 @@ mod soundness;
 
 pub use dates::Dated;
 pub use dates::trade_date;
+pub use editions::EDITION_2014;
+pub use editions::has_marks;
 pub use founding::Founding;
 pub use founding::found;
 pub use groups::group_of;
@@ -35,6 +38,8 @@ pub struct Standing {
 
 // Copy a field before you index it: an index into a book that came by value has the whole book copied.
 pub struct Book {
+    // The edition of the rule, by year.
+    pub edition: u32,
     pub limits: [Limit; PRODUCT_COUNT],
     pub standings: [Standing; GROUP_COUNT],
     pub windows: Windows,

@@ -13,6 +13,8 @@ ghost use Rattle.book.specs.Soundness.{areAllIn, areAllMissing, areLastS
 use crate::Book;
 use crate::Limit;
 use crate::Standing;
+use crate::editions::has_marks;
+use crate::editions::is_edition;
 use grain::DateFacts;
 use grain::PRODUCT_COUNT;
 use grain::WINDOW_LENGTH;
@@ -120,22 +122,25 @@ fn are_windows_sound(w: Windows) -> bool
     true
 }
 
-// A mark only on an expanded group.
-fn is_mark_sound(s: Standing) -> bool
-    ensures { λ r. ⌜ r ≡ isMarkSound s ⌝ }
+// A mark only on an expanded group, and none in an edition without marks.
+fn is_mark_sound(has_marks: bool, s: Standing) -> bool
+    ensures { λ r. ⌜ r ≡ isMarkSound «has_marks» s ⌝ }
 {
     if !s.marked {
         return true;
     }
-    s.expanded
+    if !s.expanded {
+        return false;
+    }
+    has_marks
 }
 
-fn are_marks_sound(standings: [Standing; GROUP_COUNT]) -> bool
-    ensures { λ r. ⌜ r ≡ every (λ g. isMarkSound (getD standings g noStanding)) allGroups ⌝ }
+fn are_marks_sound(has_marks: bool, standings: [Standing; GROUP_COUNT]) -> bool
+    ensures { λ r. ⌜ r ≡ every (λ g. isMarkSound «has_marks» (getD standings g noStanding)) allGroups ⌝ }
 {
     for g in 0..GROUP_COUNT {
         let s = standings[g];
-        if !is_mark_sound(s) {
+        if !is_mark_sound(has_marks, s) {
             return false;
         }
     }
@@ -194,12 +199,15 @@ impl Book {
     pub fn is_sound(self) -> bool
         ensures { λ r. ⌜ r ≡ isSound (view self) ⌝ }
     {
+        if !is_edition(self.edition) {
+            return false;
+        }
         let day = self.day;
         if !is_sound_date(day, self.is_open) {
             return false;
         }
         let standings = self.standings;
-        if !are_marks_sound(standings) {
+        if !are_marks_sound(has_marks(self.edition), standings) {
             return false;
         }
         if !are_products_sound(self) {

@@ -1,7 +1,7 @@
 -- What an ended day leaves shows the Record's end.
 use Prim.Native.Nat.{ℕ, _<_}
 use mathlib.Core.Path.{_≡_, refl, sym, _∙_, ap}
-use mathlib.Core.Bool.{Bool, true, false, cond}
+use mathlib.Core.Bool.{Bool, true, false, _&&_, cond}
 use mathlib.Core.List.{List, map}
 use mathlib.Core.Option.{none}
 use lib.ListN.{getD, List·getD-map}
@@ -15,6 +15,7 @@ use Rattle.record.specs.declared.Event.{Event}
 use Rattle.record.specs.declared.Event.the-variants.{Quiet, Triggered, Held, Reverted, Raised}
 use Rattle.record.specs.declared.GroupEvent.{GroupEvent}
 use Rattle.record.specs.State.{Product, Group, groupTable, groupCount, groupOf, dayOf, tradeDate}
+use Rattle.record.specs.Edition.{conditionsOf}
 use Rattle.record.specs.Move.{Move, isAtExpanded, groupMoves}
 use Rattle.record.specs.End.{groupEvent, eventOf, levelAfter, markAfter, isRaised, endProduct, endGroup}
 use Rattle.record.specs.Sound.{isExpanded}
@@ -28,6 +29,7 @@ use Rattle.book.specs.declared.Limit.{Limit}
 use Rattle.book.specs.Book.{limitIn, standingIn, todayIn, levelOf, viewProduct, viewGroup, viewGroups, viewCommon, view}
 use Rattle.book.specs.Numbers.{allGroups}
 use Rattle.book.proofs.SoundFacts.{day-is}
+use Rattle.book.proofs.Shown.{hasMarks}
 use Rattle.book.proofs.Numbers.{value-at, map-twice}
 use Rattle.book.proofs.Views.{shownGroup, groups-are, same-groups, products-view, next-view}
 use Rattle.ending.specs.Lead.{movesOf}
@@ -51,6 +53,7 @@ pub record Leaves (b z : Book) (es : List GroupEvent) : Type 0 where
       → windowOf (z .windows) p ≡ windowOfEnd b p
   pub today : (p : ℕ) → p < productCount → sheetIn (todayIn z p) ≡ none
   pub last : z .last ≡ b .today
+  pub edition : z .edition ≡ b .edition
   pub day : z .day ≡ b .day
   pub isOpen : z .«is_open» ≡ false
 
@@ -61,9 +64,9 @@ moves-are b g ps = ap (λ (d : Day). groupMoves d (viewGroup b g ps)) (day-is b)
 
 event-is : (b : Book) (g : ℕ) (ps : List ℕ)
     → groupEvent (viewCommon b) (viewGroup b g ps)
-    ≡ eventOf (levelOf (standingIn b g .expanded)) (standingIn b g .marked) (movesToday b ps)
-unfolding groupEvent viewGroup
-event-is b g ps = ap (eventOf (levelOf (standingIn b g .expanded)) (standingIn b g .marked)) (moves-are b g ps)
+    ≡ eventOf (conditionsOf (b .edition)) (levelOf (standingIn b g .expanded)) (standingIn b g .marked) (movesToday b ps)
+unfolding groupEvent viewGroup viewCommon
+event-is b g ps = ap (eventOf (conditionsOf (b .edition)) (levelOf (standingIn b g .expanded)) (standingIn b g .marked)) (moves-are b g ps)
 
 events-are : (b : Book) → map (groupEvent (viewCommon b)) (viewGroups b 0 groupTable) ≡ map (eventToday b) allGroups
 events-are b =
@@ -72,21 +75,21 @@ events-are b =
     ∙ same-groups (λ g. groupEvent (viewCommon b) (shownGroup b g)) (eventToday b) (λ g l. event-is b g (productsOf g))
 
 -- what an end makes of a group
-abbrev groupAfter : Day → Event → List (List Move) → List Product → Group
-groupAfter d e mss qs =
-    record { level = levelAfter e; mark = markAfter e (any (any isAtExpanded) mss); products = map (endProduct d e) qs }
+abbrev groupAfter : Bool → Day → Event → List (List Move) → List Product → Group
+groupAfter marks d e mss qs =
+    record { level = levelAfter e; mark = markAfter e (marks && any (any isAtExpanded) mss); products = map (endProduct d e) qs }
 
 group-after : (b : Book) (g : ℕ)
     → endGroup (viewCommon b) (viewGroup b g (productsOf g))
-    ≡ groupAfter (b .day) (eventToday b g) (movesToday b (productsOf g)) (map (viewProduct b) (productsOf g))
-unfolding endGroup viewGroup
+    ≡ groupAfter (hasMarks b) (b .day) (eventToday b g) (movesToday b (productsOf g)) (map (viewProduct b) (productsOf g))
+unfolding endGroup viewGroup viewCommon
 group-after b g =
     let ps = productsOf g in
     let qs = map (viewProduct b) ps in
     let shown = viewGroup b g ps in
-    ap (λ (d : Day). groupAfter d (groupEvent (viewCommon b) shown) (groupMoves (dayOf (viewCommon b)) shown) qs) (day-is b)
-    ∙ ap (λ (e : Event). groupAfter (b .day) e (groupMoves (dayOf (viewCommon b)) shown) qs) (event-is b g ps)
-    ∙ ap (λ (mss : List (List Move)). groupAfter (b .day) (eventToday b g) mss qs) (moves-are b g ps)
+    ap (λ (d : Day). groupAfter (hasMarks b) d (groupEvent (viewCommon b) shown) (groupMoves (dayOf (viewCommon b)) shown) qs) (day-is b)
+    ∙ ap (λ (e : Event). groupAfter (hasMarks b) (b .day) e (groupMoves (dayOf (viewCommon b)) shown) qs) (event-is b g ps)
+    ∙ ap (λ (mss : List (List Move)). groupAfter (hasMarks b) (b .day) (eventToday b g) mss qs) (moves-are b g ps)
 
 level-of : (e : Event) → levelOf (isExpanded (levelAfter e)) ≡ levelAfter e
 level-of Quiet = refl
@@ -130,4 +133,4 @@ module _ (b z : Book) (es : List GroupEvent) (after : Leaves b z es) where
 
   pub end-view : view z ≡ next (view b) end
   unfolding viewCommon nextCommon nextGroup
-  end-view = next-view b z end (rw (after .day, after .isOpen)) group-shown
+  end-view = next-view b z end (rw (after .edition, after .day, after .isOpen)) group-shown

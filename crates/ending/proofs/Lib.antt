@@ -1,8 +1,11 @@
+pub mod Ands
 pub mod Earlier
 pub mod Leads
 pub mod Members
 pub mod MovesIn
 pub mod Candidates
+pub mod Enough
+pub mod Asked
 pub mod Nexts
 pub mod Products
 pub mod Searched

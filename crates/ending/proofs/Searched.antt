@@ -1,7 +1,7 @@
 -- The search for the leading contract, month after month: what is known where a month has been looked through.
 use Prim.Native.Nat.{ℕ, zero, suc, _+_, _-_, _≤_, _<_}
 use mathlib.Core.Path.{_≡_, refl, sym, subst, _∙_, ap₂}
-use mathlib.Core.Bool.{Bool, true, false, cond, false≢true}
+use mathlib.Core.Bool.{Bool, true, false, _&&_, cond, false≢true}
 use mathlib.Core.List.{List, map}
 use mathlib.Core.Option.{Option, some, none}
 use mathlib.Core.Logic.{_⊎_, inl, inr, ⊎-elim}
@@ -13,6 +13,7 @@ use Rattle.grain.specs.declared.spot.TradeDate.{TradeDate}
 use Rattle.grain.specs.Spot.{isSpot}
 use Rattle.grain.specs.Products.{firstOf}
 use Rattle.grain.specs.Lists.{any}
+use Rattle.grain.proofs.Tests.{&&-right}
 use Rattle.record.specs.declared.Lead.{Lead}
 use Rattle.record.specs.Choices.{concatMap, isSome}
 use Rattle.record.specs.State.{Product, settlementOn}
@@ -24,12 +25,14 @@ use Rattle.book.specs.Book.{limitIn, todayIn, lastIn, viewProduct}
 use Rattle.book.specs.Numbers.{numbersFrom}
 use Rattle.ending.specs.declared.lead.Condition.{Condition}
 use Rattle.book.proofs.SheetsIn.{sheet-contracts}
-use Rattle.ending.specs.Search.{countEarlier, changeMeets, meetsOn}
+use Rattle.ending.specs.Search.{countEarlier, changeMeets, meetsOn, sufficeIn, meetsIn}
 use Rattle.ending.specs.Lead.{meets, candidates, movesOf, Readable}
+use Rattle.ending.proofs.Ands.{and-false}
 use Rattle.ending.proofs.Nexts.{Under, nextOf, next-under}
 use Rattle.ending.proofs.Members.{Member, member-any, any-member, member-left, member-right, member-either}
 use Rattle.ending.proofs.Leads.{leadBy, Behind, none-lead, one-leads}
 use Rattle.ending.proofs.MovesIn.{moves-of-month, move-number}
+use Rattle.ending.proofs.Enough.{suffices}
 use Rattle.ending.proofs.Candidates.{isOf, candidate-moves, candidates-month}
 
 lt-or-ge : (a b : ℕ) → (a < b) ⊎ (b ≤ a)
@@ -82,8 +85,7 @@ module _ (b : Book) (date : TradeDate) (condition : Condition) where
   -- the contract of product p in month m meets the condition
   unfoldable pub isMet : ℕ → ℕ → Bool
   isMet p m =
-      meetsOn (meets condition) (isSpot date) p (limitIn b p .initial) (limitIn b p .expanded)
-      (contractsOf (todayIn b p)) (contractsOf (lastIn b p)) m
+      meetsIn (sufficeIn condition date p (limitIn b p) (todayIn b p) (lastIn b p)) condition date p (limitIn b p) (todayIn b p) (lastIn b p) m
 
   module _ (lo hi : ℕ) (order : lo ≤ hi) (most : hi ≤ 8) (sound : Readable b) where
     abbrev spot : ℕ → Bool
@@ -110,15 +112,16 @@ module _ (b : Book) (date : TradeDate) (condition : Condition) where
     has p m h =
         let t = sheet-contracts (todayIn b p) in
         candidates-month condition m (movesBy p)
-        ∙ moves-of-month g spot (viewProduct b p) m (rw t (sound .ascending p h))
-        ∙ rw (t, sheet-contracts (lastIn b p))
+        ∙ ap₂ _&&_ (suffices condition b date p)
+        (moves-of-month g spot (viewProduct b p) m (rw t (sound .ascending p h)) ∙ rw (t, sheet-contracts (lastIn b p)))
 
     listing : (p m : ℕ) → isMet p m ≡ true → isSome (settlementOn (contractsOf (todayIn b p)) m) ≡ true
     unfolding isMet meetsOn
     listing p m e =
         changed-listed g p (limitIn b p .initial) (limitIn b p .expanded) m
         (ltb (countEarlier spot m (contractsOf (todayIn b p))) (firstOf p)) (spot m)
-        (settlementOn (contractsOf (todayIn b p)) m) (settlementOn (contractsOf (lastIn b p)) m) e
+        (settlementOn (contractsOf (todayIn b p)) m) (settlementOn (contractsOf (lastIn b p)) m)
+        (&&-right (sufficeIn condition date p (limitIn b p) (todayIn b p) (lastIn b p)) _ e)
 
     -- a contract that meets the condition after a month is not nearer than the next month
     under : (a p n : ℕ) → lo ≤ p → p < hi → isMet p n ≡ true → Under a (nextOf (b .today) a 0 group) n
@@ -135,7 +138,7 @@ module _ (b : Book) (date : TradeDate) (condition : Condition) where
     -- before the date's month every contract is spot
     pub clear-spot : Clear isMet lo hi (date .month)
     unfolding isMet meetsOn isSpot
-    clear-spot p n k l h = let early : n ≤ date .month = omega arith in rw (le-leb n (date .month) early)
+    clear-spot p n k l h = let early : n ≤ date .month = omega arith in rw (le-leb n (date .month) early) (and-false (sufficeIn condition date p (limitIn b p) (todayIn b p) (lastIn b p)))
 
     pub clear-next : (a m : ℕ) → m ≡ nextOf (b .today) a 0 group → Clear isMet lo hi a → ClearAt isMet lo hi a → Clear isMet lo hi m
     clear-next a m e clear here p n k l h = go (isMet p n) refl

@@ -1,7 +1,7 @@
 -- What an end promises, whatever the book; and what it does to a group's standing, a product's limits and its window.
 use Prim.Native.Nat.{ℕ}
 use mathlib.Core.Path.{_≡_}
-use mathlib.Core.Bool.{Bool, cond}
+use mathlib.Core.Bool.{Bool, _&&_, cond}
 use mathlib.Core.List.{List, map}
 use mathlib.Core.Option.{Option, some, none}
 use lib.ListN.{getD, replicate}
@@ -13,6 +13,7 @@ use Rattle.record.specs.declared.Event.the-variants.{Quiet}
 use Rattle.record.specs.declared.GroupEvent.{GroupEvent}
 use Rattle.record.specs.State.{groupCount, groupOf, sheetOr}
 use Rattle.record.specs.Window.{windowAfter}
+use Rattle.record.specs.Edition.{conditionsOf}
 use Rattle.record.specs.Move.{isAtExpanded}
 use Rattle.record.specs.End.{levelAfter, markAfter, eventOf, isRaised}
 use Rattle.record.specs.Sound.{isExpanded}
@@ -51,14 +52,15 @@ pub record Ends (b : Book) (r : Ended) : Type 0 where
 -- the event of a group of a book
 abbrev pub eventIn : Book → TradeDate → ℕ → Event
 eventIn b date g =
-    eventOf (levelOf (standingIn b g .expanded)) (standingIn b g .marked) (movesOf b date (productsOf g))
+    eventOf (conditionsOf (b .edition)) (levelOf (standingIn b g .expanded)) (standingIn b g .marked) (movesOf b date (productsOf g))
 
 abbrev pub standingAfter : Event → Bool → Standing
 standingAfter e atExpanded = record { expanded = isExpanded (levelAfter e); marked = markAfter e atExpanded }
 
 -- the standing of a group of a book after its event
 abbrev pub standingOfEnd : Book → TradeDate → List GroupEvent → ℕ → Standing
-standingOfEnd b date es g = standingAfter (getD es g quiet .event) (any (any isAtExpanded) (movesOf b date (productsOf g)))
+standingOfEnd b date es g =
+    standingAfter (getD es g quiet .event) (conditionsOf (b .edition) .hasMarks && any (any isAtExpanded) (movesOf b date (productsOf g)))
 
 -- raised: I = old E, and E afresh
 abbrev pub limitAfter : Bool → ℕ → Limit → Limit

@@ -2,17 +2,20 @@
 ghost use mathlib.Core.Path.{_≡_};
 ghost use mathlib.Core.List.{map};
 ghost use Prim.Native.Nat.{_<_};
+ghost use Rattle.record.specs.Edition.{conditionsOf};
 ghost use Rattle.record.specs.End.{ledBy, eventOf};
 ghost use Rattle.record.specs.declared.Event.the-variants.{Held, Reverted};
 ghost use Rattle.record.specs.History.{productsOf};
 ghost use Rattle.record.specs.State.{groupCount, initial, expanded};
 ghost use Rattle.book.specs.Book.{standingIn};
 ghost use Rattle.book.specs.Numbers.{allGroups};
-ghost use Rattle.ending.specs.Lead.{foundAs, leadFor, movesOf, Readable};
-ghost use Rattle.ending.specs.declared.lead.Condition.the-variants.{AtLeastInitial};
+ghost use Rattle.ending.specs.Lead.{foundAs, leadFor, movesOf, holdingOf, Readable};
 ghost use Rattle.ending.specs.Ends.{eventIn, eventsOf};
+use crate::editions::holding_of;
+use crate::editions::trigger_of;
 use crate::lead::Condition;
 use crate::lead::Found;
+use crate::lead::enough_for;
 use crate::lead::leading;
 use book::Book;
 use grain::TradeDate;
@@ -26,14 +29,15 @@ pub(crate) fn leading_in(b: Book, date: TradeDate, condition: Condition, g: usiz
 {
     let first = book::products_before(g);
     let past = book::products_before(g + 1);
-    leading(b, date, condition, first, past)
+    let enough = enough_for(b, date, condition, first, past);
+    leading(b, date, condition, enough, first, past)
 }
 
 fn initial_event(b: Book, date: TradeDate, g: usize) -> Event
     requires { ⌜ (g < groupCount) × Readable b ⌝ }
-    ensures { λ r. ⌜ r ≡ eventOf initial (standingIn b g .marked) (movesOf b date (productsOf g)) ⌝ }
+    ensures { λ r. ⌜ r ≡ eventOf (conditionsOf (b .edition)) initial (standingIn b g .marked) (movesOf b date (productsOf g)) ⌝ }
 {
-    let Found::At(at) = leading_in(b, date, Condition::Trigger, g) else {
+    let Found::At(at) = leading_in(b, date, trigger_of(b.edition), g) else {
         return Event::Quiet;
     };
     Event::Triggered(at)
@@ -42,9 +46,9 @@ fn initial_event(b: Book, date: TradeDate, g: usize) -> Event
 // Of an expanded group that is not raised.
 fn held_or_reverted(b: Book, date: TradeDate, g: usize) -> Event
     requires { ⌜ (g < groupCount) × Readable b ⌝ }
-    ensures { λ r. ⌜ r ≡ ledBy (leadFor AtLeastInitial (movesOf b date (productsOf g))) Held Reverted ⌝ }
+    ensures { λ r. ⌜ r ≡ ledBy (leadFor (holdingOf (b .edition)) (movesOf b date (productsOf g))) Held Reverted ⌝ }
 {
-    let Found::At(at) = leading_in(b, date, Condition::AtLeastInitial, g) else {
+    let Found::At(at) = leading_in(b, date, holding_of(b.edition), g) else {
         return Event::Reverted;
     };
     Event::Held(at)
@@ -52,7 +56,7 @@ fn held_or_reverted(b: Book, date: TradeDate, g: usize) -> Event
 
 fn expanded_event(b: Book, date: TradeDate, marked: bool, g: usize) -> Event
     requires { ⌜ (g < groupCount) × Readable b ⌝ }
-    ensures { λ r. ⌜ r ≡ eventOf expanded marked (movesOf b date (productsOf g)) ⌝ }
+    ensures { λ r. ⌜ r ≡ eventOf (conditionsOf (b .edition)) expanded marked (movesOf b date (productsOf g)) ⌝ }
 {
     if !marked {
         return held_or_reverted(b, date, g);

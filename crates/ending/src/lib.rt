@@ -18,6 +18,7 @@ use record::refusals::UNSOUND;
 use sheets::Sheet;
 
 mod collection;
+mod editions;
 mod events;
 mod lead;
 mod limits;

@@ -3,6 +3,8 @@ ghost use mathlib.Core.Path.{_≡_};
 ghost use Prim.Native.Nat.{ℕ, _<_};
 ghost use lib.ListN.{getD};
 ghost use Rattle.grain.specs.Lists.{any};
+ghost use mathlib.Core.Bool.{_&&_};
+ghost use Rattle.record.specs.Edition.{conditionsOf};
 ghost use Rattle.record.specs.Move.{isAtExpanded};
 ghost use Rattle.record.specs.History.{productsOf};
 ghost use Rattle.record.specs.State.{groupCount};
@@ -58,11 +60,14 @@ fn is_at_expanded(b: Book, date: TradeDate, g: usize) -> bool
     true
 }
 
-// A move of exactly E is looked for only in a held group: no other event can set the mark.
+// A move of exactly E is looked for only in a held group, of an edition that has marks: nothing else can set one.
 fn standing_in(b: Book, date: TradeDate, event: Event, g: usize) -> Standing
     requires { ⌜ (g < groupCount) × Readable b ⌝ }
-    ensures { λ r. ⌜ r ≡ standingAfter event (any (any isAtExpanded) (movesOf b date (productsOf g))) ⌝ }
+    ensures { λ r. ⌜ r ≡ standingAfter event (conditionsOf (b .edition) .hasMarks && any (any isAtExpanded) (movesOf b date (productsOf g))) ⌝ }
 {
+    if !book::has_marks(b.edition) {
+        return standing_after(event, false);
+    }
     let Event::Held(_) = event else {
         return standing_after(event, false);
     };

@@ -135,6 +135,7 @@ early-facts b p ms ss e =
 abbrev pub filedBook : Book → ℕ → Sheet → Book
 filedBook b p s =
     record {
+      edition = b .edition;
       limits = b .limits;
       standings = b .standings;
       windows = b .windows;

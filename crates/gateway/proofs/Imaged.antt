@@ -13,14 +13,14 @@ use Rattle.grain.specs.declared.check.Verdict.{Verdict}
 use Rattle.grain.specs.declared.check.Verdict.the-variants.{Free, Within, Below, Above}
 use Rattle.record.specs.Refusals.{unsound}
 use Rattle.record.specs.State.{Record, groupOf, groupAt}
-use Rattle.record.specs.Founding.{Start, isFitStart, founded}
+use Rattle.record.specs.Founding.{Start, foundingRefusal, founded}
 use Rattle.record.specs.Sound.{isSound}
 use Rattle.record.specs.Record.{Call, check, Answer, refused, opened, filed, ended, checked, refusal, answer, answerBy, respond, stateAfter, answers}
 use Rattle.record.specs.History.{SameFor}
 use Rattle.record.specs.Theorems.{after, historyOf, isRefusal}
 use Rattle.record.proofs.Proved.{theorems}
 use Rattle.book.specs.Book.{view}
-use Rattle.book.proofs.FoundingNumbers.{fit-by}
+use Rattle.book.proofs.FoundingNumbers.{accepted-by}
 use Rattle.book.proofs.Numbered.{unsound-refusal}
 use Rattle.book.proofs.Responses.{check-responds}
 use Rattle.book.proofs.Unfounded.{no-book-unsound}
@@ -77,20 +77,20 @@ follows (checks n e t) = one-more (check-image _ _ _ _ _ n e) (follows t)
 follows (spans r e t) = one-more (check-image _ _ _ _ _ (r .answer) (ap (λ (r : Spanned). r .answer) e)) (follows t)
 
 module _ (s : Start) (cs : List Call) (vs : List Seen) (z : List ℕ) (run : ImageRun s cs vs z) where
-  fit : isFitStart s ≡ true
-  fit = fit-by (isFitStart s) 0 (run .founds .number) refl
+  accepted : foundingRefusal s ≡ none
+  accepted = accepted-by s 0 (run .founds .number) refl
 
   seen-is : vs ≡ seenOf noRenewed noEvents (answers (founded s) cs)
   seen-is =
       let f = run .founds in
       let ws = run .fresh in
       follows (run .trace) .seen
-      ∙ ap (λ (r : Record). seenOf (renewedIn ws) (eventsIn ws) (answers r cs)) (f .state fit)
-      ∙ ap (λ rs. seenOf rs (eventsIn ws) (answers (founded s) cs)) (f .renewed fit)
-      ∙ ap (λ es. seenOf noRenewed es (answers (founded s) cs)) (f .events fit)
+      ∙ ap (λ (r : Record). seenOf (renewedIn ws) (eventsIn ws) (answers r cs)) (f .state accepted)
+      ∙ ap (λ rs. seenOf rs (eventsIn ws) (answers (founded s) cs)) (f .renewed accepted)
+      ∙ ap (λ es. seenOf noRenewed es (answers (founded s) cs)) (f .events accepted)
 
   contents-are : view (bookIn z) ≡ after s cs
-  contents-are = follows (run .trace) .contents ∙ ap (λ (r : Record). stateAfter r cs) (run .founds .state fit)
+  contents-are = follows (run .trace) .contents ∙ ap (λ (r : Record). stateAfter r cs) (run .founds .state accepted)
 
   -- a verdict with a span, sent again at its ends
   module _ (p size month price : ℕ) where
@@ -122,7 +122,7 @@ never-unsound : (s : Start) (cs : List Call) (vs : List Seen) (z : List ℕ) →
 never-unsound s cs vs z run =
     ap (every (λ v. not (eqb (v .number) unsound))) (seen-is s cs vs z run)
     ∙ numbers-are noRenewed noEvents (answers (founded s) cs)
-    ∙ theorems .neverUnsound s (fit s cs vs z run) cs
+    ∙ theorems .neverUnsound s (accepted s cs vs z run) cs
 
 -- ---- two lists
 module _ (s : Start) (g : ℕ) (cs ds : List Call) (us vs : List Seen) (y z : List ℕ) (one : ImageRun s cs us y) (other : ImageRun s ds vs z)
@@ -135,7 +135,7 @@ module _ (s : Start) (g : ℕ) (cs ds : List Call) (us vs : List Seen) (y z : Li
 
   same-answers : (p size month price : ℕ) → groupOf p ≡ g → answerTo y (check p size month price) ≡ answerTo z (check p size month price)
   same-answers =
-      agrees.same-checks s g cs ds (bookIn y) (bookIn z) (contents-are s cs us y one) (contents-are s ds vs z other) same (fit s cs us y one)
+      agrees.same-checks s g cs ds (bookIn y) (bookIn z) (contents-are s cs us y one) (contents-are s ds vs z other) same (accepted s cs us y one)
 
 pub whole-images : WholeImages
 whole-images =
@@ -152,7 +152,7 @@ whole-images =
       resent = λ s cs vs z run p size month price. resends s cs vs z run p size month price _ refl;
       staysFree =
           λ s cs ds us vs y z one other.
-          agrees.stays-free s (fit s cs us y one) cs ds (bookIn y) (bookIn z) (contents-are s cs us y one) (contents-are s _ vs z other);
+          agrees.stays-free s (accepted s cs us y one) cs ds (bookIn y) (bookIn z) (contents-are s cs us y one) (contents-are s _ vs z other);
       sameDay = same-day;
       sameGroup = same-group;
       sameSpans = λ s g cs ds us vs y z one other same p size month price e. ap withSpan (same-answers s g cs ds us vs y z one other same p size month price e);

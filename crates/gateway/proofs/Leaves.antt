@@ -7,7 +7,7 @@ use mathlib.Core.Option.{Option, some, none}
 use borrow.Author.Tests.{ne-eqb}
 use Rattle.record.specs.Refusals.{unsound}
 use Rattle.record.specs.State.{Record}
-use Rattle.record.specs.Founding.{Start, isFitStart}
+use Rattle.record.specs.Founding.{Start}
 use Rattle.record.specs.Sound.{isSound}
 use Rattle.record.specs.Record.{Call, opening, sheet, end, check, Answer, refused, opened, filed, ended, checked, refusal, answer, answerBy, stateBy, respond}
 use Rattle.record.proofs.StaysSound.{founded-sound, respond-sound}
@@ -16,7 +16,7 @@ use Rattle.book.specs.declared.founding.Founding.{Founding}
 use Rattle.book.specs.Book.{view}
 use Rattle.book.specs.Calls.{Responds, answerAs}
 use Rattle.book.specs.Founding.{Founds}
-use Rattle.book.proofs.FoundingNumbers.{fit-by, unfit-by}
+use Rattle.book.proofs.FoundingNumbers.{accepted-by, refused-by}
 use Rattle.book.proofs.Numbered.{unsound-refusal}
 use Rattle.image.specs.Image.{bookIn}
 use Rattle.image.specs.Answers.{renewedIn, eventsIn}
@@ -96,23 +96,23 @@ module _ (ws : List ℕ) (c : Call) (a : Answer) (z : Book) (yes : isAccepted a 
 module _ (ws : List ℕ) (s : Start) (f : Founding) (founds : Founds s f) where
   pub refused-founding : (f .refusal ≡ 0 → ⊥) → FoundsImage ws s (f .refusal) ws
   refused-founding other =
-      let unfit = unfit-by (isFitStart s) (f .refusal) (founds .refusal) other in
+      let no = refused-by s (f .refusal) (founds .refusal) other in
       record {
         number = founds .refusal;
-        state = λ e. cc (unfit, e);
-        renewed = λ e. cc (unfit, e);
-        events = λ e. cc (unfit, e);
-        unchanged = λ e. refl;
+        state = λ e. cc (no, e);
+        renewed = λ e. cc (no, e);
+        events = λ e. cc (no, e);
+        unchanged = λ n e. refl;
       }
 
   pub accepted-founding : (now : List ℕ) → f .refusal ≡ 0 → Put (f .book) noRenewed noEvents now → FoundsImage ws s 0 now
   accepted-founding now zero p =
-      let fit = fit-by (isFitStart s) (f .refusal) (founds .refusal) zero in
-      let is = founds .accepted fit in
+      let yes = accepted-by s (f .refusal) (founds .refusal) zero in
+      let is = founds .accepted yes in
       record {
         number = sym zero ∙ founds .refusal;
-        state = λ e. ap view (p .book (rw is (founded-sound s fit))) ∙ is;
+        state = λ e. ap view (p .book (rw is (founded-sound s yes))) ∙ is;
         renewed = λ e. p .renewed;
         events = λ e. p .events;
-        unchanged = λ e. cc (fit, e);
+        unchanged = λ n e. cc (yes, e);
       }

@@ -20,7 +20,7 @@ use Rattle.gateway.proofs.tallied.botskhela_tallied_check.Reads as tall
 use Rattle.gateway.proofs.tallied.botskhela_tallied_book_check.Reads as tallied-book-check
 
 pub found-says : (κs : Lfts 1) (a : _) (r : ℕ) (s : _) → founds.Post κs a r s
-    → FoundsImage (now (a .0)) (record { limits = a .1 .0 ∷ a .1 .1 .0 ∷ a .1 .1 .1 .0 ∷ a .1 .1 .1 .1 .0 ∷ a .1 .1 .1 .1 .1 .0 ∷ a .1 .1 .1 .1 .1 .1 .0 ∷ a .1 .1 .1 .1 .1 .1 .1 .0 ∷ a .1 .1 .1 .1 .1 .1 .1 .1 .0 ∷ [] }) r (now (s .0))
+    → FoundsImage (now (a .0)) (record { edition = a .1 .0; limits = a .1 .1 .0 ∷ a .1 .1 .1 .0 ∷ a .1 .1 .1 .1 .0 ∷ a .1 .1 .1 .1 .1 .0 ∷ a .1 .1 .1 .1 .1 .1 .0 ∷ a .1 .1 .1 .1 .1 .1 .1 .0 ∷ a .1 .1 .1 .1 .1 .1 .1 .1 .0 ∷ a .1 .1 .1 .1 .1 .1 .1 .1 .1 .0 ∷ [] }) r (now (s .0))
 found-says κs a r s q = q
 
 pub found-asks : (κs : Lfts 1) (a : _) → founds.Pre κs a

@@ -1,17 +1,16 @@
 -- What each call on a book by pointer promises, whatever words are lent: what the Record answers and does to the book in them.
 use Prim.Native.Nat.{ℕ, _*_}
 use mathlib.Core.Path.{_≡_}
-use mathlib.Core.Bool.{true, false, cond}
 use mathlib.Core.List.{List, map}
-use mathlib.Core.Option.{some}
+use mathlib.Core.Option.{some, none}
 use lib.ListN.{replicate}
 use Rattle.grain.specs.Products.{productCount}
 use Rattle.grain.specs.Check.{spanIn}
 use Rattle.grain.specs.Bare.{verdictNumber, noSpan, spanOr}
-use Rattle.grain.specs.Refusals.{unfitAmount}
 use Rattle.grain.specs.declared.check.Span.{Span}
+use Rattle.record.specs.Choices.{orElse}
 use Rattle.record.specs.State.{groupCount}
-use Rattle.record.specs.Founding.{Start, isFitStart, founded}
+use Rattle.record.specs.Founding.{Start, foundingRefusal, founded}
 use Rattle.record.specs.Record.{Call, check, Answer, refused, opened, filed, ended, checked, refusal, respond}
 use Rattle.book.specs.Book.{view}
 use Rattle.image.specs.Places.{eventWords}
@@ -85,8 +84,8 @@ noEvents = replicate (groupCount * eventWords) 0
 
 -- A founding looks at nothing of the words; a refused one leaves the very words.
 pub record FoundsImage (ws : List ℕ) (s : Start) (n : ℕ) (now : List ℕ) : Type 0 where
-  pub number : n ≡ cond (isFitStart s) 0 unfitAmount
-  pub state : isFitStart s ≡ true → view (bookIn now) ≡ founded s
-  pub renewed : isFitStart s ≡ true → renewedIn now ≡ noRenewed
-  pub events : isFitStart s ≡ true → eventsIn now ≡ noEvents
-  pub unchanged : isFitStart s ≡ false → now ≡ ws
+  pub number : n ≡ orElse (foundingRefusal s) 0
+  pub state : foundingRefusal s ≡ none → view (bookIn now) ≡ founded s
+  pub renewed : foundingRefusal s ≡ none → renewedIn now ≡ noRenewed
+  pub events : foundingRefusal s ≡ none → eventsIn now ≡ noEvents
+  pub unchanged : (m : ℕ) → foundingRefusal s ≡ some m → now ≡ ws

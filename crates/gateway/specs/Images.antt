@@ -92,7 +92,7 @@ pub record WholeImages : Type 0 where
       (s : Start) (cs ds : List Call) (us vs : List Seen) (y z : List ℕ) → ImageRun s cs us y → ImageRun s (cs ++ ds) vs z
       → (p q i j month x w : ℕ) (v : Verdict)
       → answerTo y (check p i month x) ≡ checked Free → answerTo z (check q j month w) ≡ checked v → v ≡ Free
-  -- two lists with the same founding limits that agree on the accepted openings and ends and on one group's sheets of each day:
+  -- two lists with the same edition and founding limits that agree on the accepted openings and ends and on one group's sheets of each day:
   -- the same day is open after both, or none
   pub sameDay :
       (s : Start) (g : ℕ) (cs ds : List Call) (us vs : List Seen) (y z : List ℕ) → ImageRun s cs us y → ImageRun s ds vs z

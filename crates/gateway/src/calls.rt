@@ -16,6 +16,7 @@ use image::put_opened;
 #[no_mangle]
 pub extern "C" fn botskhela_found(
     words: &mut [u32; WORDS],
+    edition: u32,
     corn: u32,
     soybeans: u32,
     soybean_oil: u32,
@@ -25,9 +26,9 @@ pub extern "C" fn botskhela_found(
     oats: u32,
     rough_rice: u32,
 ) -> u32
-    ensures { λ r. ⌜ FoundsImage (now (words .entry)) (record { limits = corn ∷ soybeans ∷ «soybean_oil» ∷ «soybean_meal» ∷ «chicago_wheat» ∷ «kc_wheat» ∷ oats ∷ «rough_rice» ∷ [] }) r (now (words .exit)) ⌝ }
+    ensures { λ r. ⌜ FoundsImage (now (words .entry)) (record { edition = edition; limits = corn ∷ soybeans ∷ «soybean_oil» ∷ «soybean_meal» ∷ «chicago_wheat» ∷ «kc_wheat» ∷ oats ∷ «rough_rice» ∷ [] }) r (now (words .exit)) ⌝ }
 {
-    let founding = book::found([
+    let limits = [
         corn,
         soybeans,
         soybean_oil,
@@ -36,7 +37,8 @@ pub extern "C" fn botskhela_found(
         kc_wheat,
         oats,
         rough_rice,
-    ]);
+    ];
+    let founding = book::found(edition, limits);
     if founding.refusal != 0 {
         return founding.refusal;
     }

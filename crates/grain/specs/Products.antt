@@ -23,6 +23,10 @@ floors = 160 ∷ 400 ∷ 200 ∷ 200 ∷ 240 ∷ 240 ∷ 160 ∷ 100 ∷ []
 unfoldable pub firsts : List ℕ
 firsts = 5 ∷ 7 ∷ 8 ∷ 8 ∷ 5 ∷ 5 ∷ 5 ∷ 6 ∷ []
 
+-- the last month of the crop year, January being 1
+unfoldable pub lastCropMonths : List ℕ
+lastCropMonths = 9 ∷ 8 ∷ 9 ∷ 9 ∷ 5 ∷ 5 ∷ 5 ∷ 7 ∷ []
+
 unfoldable pub standardTicks : List ℕ
 standardTicks = 2 ∷ 2 ∷ 1 ∷ 1 ∷ 2 ∷ 2 ∷ 2 ∷ 1 ∷ []
 
@@ -58,7 +62,7 @@ monthsTraded =
 abbrev pub isProduct : ℕ → Bool
 isProduct p = ltb p productCount
 
--- 0 where there is no such product, here and in the next two
+-- 0 where there is no such product, here and in the next three
 abbrev pub stepOf : ℕ → ℕ
 stepOf p = getD steps p 0
 
@@ -68,6 +72,9 @@ floorOf p = getD floors p 0
 abbrev pub firstOf : ℕ → ℕ
 firstOf p = getD firsts p 0
 
+abbrev pub lastCropMonthOf : ℕ → ℕ
+lastCropMonthOf p = getD lastCropMonths p 0
+
 -- size 0 is standard, 1 is mini; 0 where the product or the size is not offered
 unfoldable pub tickOf : ℕ → ℕ → ℕ
 tickOf p size = cond (eqb size 0) (getD standardTicks p 0) (cond (eqb size 1) (getD miniTicks p 0) 0)
@@ -75,6 +82,14 @@ tickOf p size = cond (eqb size 0) (getD standardTicks p 0) (cond (eqb size 1) (g
 abbrev pub isOffered : ℕ → ℕ → Bool
 isOffered p size = not (eqb (tickOf p size) 0)
 
--- the product trades in the calendar month of a contract month, which is year × 12 + month − 1
+-- the calendar month of a contract month, which is year × 12 + month − 1
+abbrev pub calendarMonth : ℕ → ℕ
+calendarMonth month = month % 12 + 1
+
+-- the product trades in the calendar month of a contract month
 unfoldable pub isTraded : ℕ → ℕ → Bool
-isTraded p month = isIn (month % 12 + 1) (getD monthsTraded p [])
+isTraded p month = isIn (calendarMonth month) (getD monthsTraded p [])
+
+-- a contract month is the last of its product's crop year
+unfoldable pub isLastCropMonth : ℕ → ℕ → Bool
+isLastCropMonth p month = eqb (calendarMonth month) (lastCropMonthOf p)

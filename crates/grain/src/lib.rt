@@ -38,6 +38,7 @@ pub use prices::is_on_tick;
 pub use prices::is_settlement;
 pub use products::PRODUCT_COUNT;
 pub use products::first_contracts;
+pub use products::is_last_crop_month;
 pub use products::is_product;
 pub use products::is_traded;
 pub use products::tick;

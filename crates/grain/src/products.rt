@@ -1,7 +1,7 @@
 // The product table. Each column is a constant array that one function reads; no other function touches it.
 ghost use mathlib.Core.Path.{_≡_};
 ghost use Prim.Native.Nat.{_<_};
-ghost use Rattle.grain.specs.Products.{productCount, isProduct, stepOf, floorOf, firstOf, tickOf, isTraded};
+ghost use Rattle.grain.specs.Products.{productCount, isProduct, stepOf, floorOf, firstOf, tickOf, isTraded, isLastCropMonth};
 
 // How many products there are.
 pub const PRODUCT_COUNT: usize = 8;
@@ -14,6 +14,9 @@ const STEPS: [u8; PRODUCT_COUNT] = [40, 40, 50, 50, 40, 40, 40, 10];
 const FLOORS: [u16; PRODUCT_COUNT] = [160, 400, 200, 200, 240, 240, 160, 100];
 
 const FIRSTS: [u8; PRODUCT_COUNT] = [5, 7, 8, 8, 5, 5, 5, 6];
+
+// The last month of each crop year; January is 1.
+const LAST_CROP_MONTHS: [u8; PRODUCT_COUNT] = [9, 8, 9, 9, 5, 5, 5, 7];
 
 // The standard ticks, then those of the minis; 0 where no mini is offered.
 const TICKS: [u8; 2 * PRODUCT_COUNT] = [2, 2, 1, 1, 2, 2, 2, 1, 1, 1, 0, 0, 1, 0, 0, 0];
@@ -81,4 +84,14 @@ pub fn is_traded(product: u32, month: u32) -> bool
         return false;
     }
     (MONTHS[product as usize] >> (month % 12)) % 2 == 1
+}
+
+// Whether a contract month is the last of the product's crop year.
+pub fn is_last_crop_month(product: u32, month: u32) -> bool
+    ensures { λ r. ⌜ r ≡ isLastCropMonth product month ⌝ }
+{
+    if PRODUCTS <= product {
+        return false;
+    }
+    month % 12 + 1 == LAST_CROP_MONTHS[product as usize] as u32
 }

@@ -1,15 +1,14 @@
 -- A book that holds what the Record holds after a list of calls, however it came by it: what is known of it, and of two of them.
 use Prim.Native.Nat.{ℕ, _<_}
 use mathlib.Core.Path.{_≡_, ap, sym, _∙_}
-use mathlib.Core.Bool.{true}
 use mathlib.Core.List.{List, _++_}
-use mathlib.Core.Option.{some}
+use mathlib.Core.Option.{some, none}
 use Rattle.grain.specs.Check.{spanIn, isWithin}
 use Rattle.grain.specs.declared.check.Span.{Span}
 use Rattle.grain.specs.declared.check.Verdict.{Verdict}
 use Rattle.grain.specs.declared.check.Verdict.the-variants.{Free}
 use Rattle.record.specs.State.{Product, Group, Record, groupOf, groupAt}
-use Rattle.record.specs.Founding.{Start, isFitStart}
+use Rattle.record.specs.Founding.{Start, foundingRefusal}
 use Rattle.record.specs.Record.{Call, check, Answer, checked, respond}
 use Rattle.record.specs.History.{SameFor}
 use Rattle.record.specs.Theorems.{after, historyOf, Together, BetweenLimits, Resent}
@@ -40,6 +39,7 @@ same-contents : (z : Book) (r : Record) → view z ≡ r → SameContents z r
 unfolding view viewCommon
 same-contents z r e =
     record {
+      edition = ap (λ (r : Record). r .common .edition) e;
       isOpen = ap (λ (r : Record). r .common .isOpen) e;
       opened = ap (λ (r : Record). r .common .opened) e;
       products = λ p l. rw (← e) (product-same z p l);
@@ -72,10 +72,10 @@ module _ (s : Start) (cs : List Call) (z : Book) (is : view z ≡ after s cs) wh
       rw is (theorems .resent s cs p size month price v allowed (answered p size month price ∙ e) has)
 
 -- ---- a book, and one after further calls
-pub stays-free : (s : Start) → isFitStart s ≡ true → (cs ds : List Call) (y z : Book) → view y ≡ after s cs → view z ≡ after s (cs ++ ds)
+pub stays-free : (s : Start) → foundingRefusal s ≡ none → (cs ds : List Call) (y z : Book) → view y ≡ after s cs → view z ≡ after s (cs ++ ds)
     → (p q i j month x w : ℕ) (v : Verdict) → answerIn y p i month x ≡ checked Free → answerIn z q j month w ≡ checked v → v ≡ Free
-stays-free s fit cs ds y z one other p q i j month x w v e h =
-    theorems .staysFree s fit cs ds p q i j month x w v (answered s cs y one p i month x ∙ e) (answered s (cs ++ ds) z other q j month w ∙ h)
+stays-free s accepted cs ds y z one other p q i j month x w v e h =
+    theorems .staysFree s accepted cs ds p q i j month x w v (answered s cs y one p i month x ∙ e) (answered s (cs ++ ds) z other q j month w ∙ h)
 
 -- ---- two books
 module _ (s : Start) (g : ℕ) (cs ds : List Call) (y z : Book) (one : view y ≡ after s cs) (other : view z ≡ after s ds)
@@ -86,8 +86,8 @@ module _ (s : Start) (g : ℕ) (cs ds : List Call) (y z : Book) (one : view y �
   pub same-group : groupAt (view y) g ≡ groupAt (view z) g
   same-group = rw (one, other) (theorems .sameGroup s g cs ds same)
 
-  pub same-checks : isFitStart s ≡ true → (p size month price : ℕ) → groupOf p ≡ g → answerIn y p size month price ≡ answerIn z p size month price
-  same-checks fit p size month price e =
+  pub same-checks : foundingRefusal s ≡ none → (p size month price : ℕ) → groupOf p ≡ g → answerIn y p size month price ≡ answerIn z p size month price
+  same-checks accepted p size month price e =
       sym (answered s cs y one p size month price)
-      ∙ theorems .sameChecks s fit g cs ds same p size month price e
+      ∙ theorems .sameChecks s accepted g cs ds same p size month price e
       ∙ answered s ds z other p size month price

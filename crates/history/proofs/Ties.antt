@@ -17,7 +17,7 @@ use Rattle.ending.proofs.end.Reads as end
 use Rattle.checking.proofs.check.Reads as check
 
 pub found-says : (κs : contract.Lifetimes.Lfts 0) (a : _) (r : Founding) (s : _)
-    → found.Post κs a r s → Founds (record { limits = a .0 }) r
+    → found.Post κs a r s → Founds (record { edition = a .0; limits = a .1 .0 }) r
 found-says κs a r s q = q
 
 pub found-asks : (κs : contract.Lifetimes.Lfts 0) (a : _) → found.Pre κs a

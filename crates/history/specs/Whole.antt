@@ -15,7 +15,7 @@ use Rattle.record.specs.State.{Record, groupOf, groupAt, productIn}
 use Rattle.record.specs.Founding.{Start, founded}
 use Rattle.record.specs.Record.{Call, Answer, answers}
 use Rattle.record.specs.History.{kept, SameFor}
-use Rattle.record.specs.Theorems.{after, isRefusal, Together, BetweenLimits, Resent}
+use Rattle.record.specs.Theorems.{after, isRefusal, hasRaised, Together, BetweenLimits, Resent}
 use Rattle.sheets.specs.Sheets.{sheetIn}
 use Rattle.windows.specs.Windows.{windowOf}
 use Rattle.book.specs.declared.Book.{Book}
@@ -44,14 +44,15 @@ pub record SameProduct (z : Book) (r : Record) (p : ℕ) : Type 0 where
   pub level : levelOf (standingIn z (groupOf p) .expanded) ≡ groupAt r (groupOf p) .level
   pub mark : standingIn z (groupOf p) .marked ≡ groupAt r (groupOf p) .mark
 
--- all that is compared: whether a day is open, the last opened date with its left, and each product's contents
+-- all that is compared: the edition, whether a day is open, the last opened date with its left, and each product's contents
 pub record SameContents (z : Book) (r : Record) : Type 0 where
+  pub edition : z .edition ≡ r .common .edition
   pub isOpen : z .«is_open» ≡ r .common .isOpen
   pub opened : openedOf (z .day) ≡ r .common .opened
   pub products : (p : ℕ) → p < productCount → SameProduct z r p
 
 pub record WholeHistory : Type 0 where
-  -- every answer and refusal number is the Record's, from the founding limits and the calls' arguments alone
+  -- every answer and refusal number is the Record's, from the edition, the founding limits and the calls' arguments alone
   pub answered : (s : Start) (cs : List Call) (rs : List Answer) (z : Book) → Run s cs rs z → rs ≡ answers (founded s) cs
   -- and what the book holds after the list is what the Record holds, as a whole and part by part
   pub contents : (s : Start) (cs : List Call) (rs : List Answer) (z : Book) → Run s cs rs z → view z ≡ after s cs
@@ -60,6 +61,11 @@ pub record WholeHistory : Type 0 where
   pub neverUnsound :
       (s : Start) (cs : List Call) (rs : List Answer) (z : Book) → Run s cs rs z
       → every (λ a. not (isRefusal unsound a)) rs ≡ true
+  -- the book is of the edition that it was founded under, and under 2014 no group is raised
+  pub keepsEdition : (s : Start) (cs : List Call) (rs : List Answer) (z : Book) → Run s cs rs z → z .edition ≡ s .edition
+  pub neverRaised :
+      (s : Start) (cs : List Call) (rs : List Answer) (z : Book) → Run s cs rs z → s .edition ≡ 2014
+      → every (λ a. not (hasRaised a)) rs ≡ true
   -- the products of a group stand on one level
   pub together : (s : Start) (cs : List Call) (rs : List Answer) (z : Book) → Run s cs rs z → Together (view z)
   -- said of checks: of two products of one group, two prices, each between its product's limits, are both within or both not
@@ -77,7 +83,7 @@ pub record WholeHistory : Type 0 where
   pub staysFree :
       (s : Start) (cs ds : List Call) (rs ts : List Answer) (y z : Book) → Run s cs rs y → Run s (cs ++ ds) ts z
       → (p q i j month x w : ℕ) (v : Verdict) → Checks y p i month x (Is Free) → Checks z q j month w (Is v) → v ≡ Free
-  -- two lists with the same founding limits that agree on the accepted openings and ends and on one group's sheets of each day:
+  -- two lists with the same edition and founding limits that agree on the accepted openings and ends and on one group's sheets of each day:
   -- the same day is open after both, or none
   pub sameDay :
       (s : Start) (g : ℕ) (cs ds : List Call) (rs ts : List Answer) (y z : Book)

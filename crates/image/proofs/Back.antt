@@ -89,7 +89,7 @@ module _ (b : Book) (s : Shaped b) (rest : List ℕ) where
   abbrev from-limits : List ℕ
   from-limits = flat wordsOfLimit (b .limits) ++ from-standings
 
-  in-parts : ws ≡ wordsOfHead (b .«is_open») (b .day) ++ from-limits
+  in-parts : ws ≡ wordsOfHead (b .edition) (b .«is_open») (b .day) ++ from-limits
   unfolding wordsOfBook
   in-parts = simp append-assoc
 
@@ -145,7 +145,7 @@ module _ (b : Book) (s : Shaped b) (rest : List ℕ) where
 
     as-book : asBook ws ≡ b
     as-book =
-        rw (limits-back, standings-back, windows-back, today-back, last-back, ap (λ l. getD l at.isOpen 0) in-parts, ap (λ l. getD l at.year 0) in-parts, ap (λ l. getD l at.month 0) in-parts, ap (λ l. getD l at.day 0) in-parts, ap (λ l. getD l at.left 0) in-parts, flag-back (b .«is_open»))
+        rw (limits-back, standings-back, windows-back, today-back, last-back, ap (λ l. getD l at.edition 0) in-parts, ap (λ l. getD l at.isOpen 0) in-parts, ap (λ l. getD l at.year 0) in-parts, ap (λ l. getD l at.month 0) in-parts, ap (λ l. getD l at.day 0) in-parts, ap (λ l. getD l at.left 0) in-parts, flag-back (b .«is_open»))
 
     pub back : bookIn ws ≡ b
     unfolding bookIn

@@ -13,36 +13,36 @@ abbrev blank : ℕ → List ℕ
 blank format = set (replicate at.words 0) at.format format
 
 -- this format
-pub formatTwo : isImage (blank 2) ≡ true
+pub formatThree : isImage (blank 3) ≡ true
 unfolding isImage every _and_
-formatTwo = refl
+formatThree = refl
 
 pub formatNone : isImage (blank 0) ≡ false
 unfolding isImage every _and_
 formatNone = refl
 
--- that of six groups
-pub formatOne : isImage (blank 1) ≡ false
+-- that with no edition
+pub formatTwo : isImage (blank 2) ≡ false
 unfolding isImage every _and_
-formatOne = refl
+formatTwo = refl
 
-pub formatThree : isImage (blank 3) ≡ false
+pub formatFour : isImage (blank 4) ≡ false
 unfolding isImage every _and_
-formatThree = refl
+formatFour = refl
 
 -- the mark of the last group
 abbrev lastMark : ℕ
 lastMark = at.windows - 1
 
 -- a day open, and the last group marked
-pub flagsOfOne : isImage (set (set (blank 2) at.isOpen 1) lastMark 1) ≡ true
+pub flagsOfOne : isImage (set (set (blank 3) at.isOpen 1) lastMark 1) ≡ true
 unfolding isImage every _and_
 flagsOfOne = refl
 
-pub openOfTwo : isImage (set (blank 2) at.isOpen 2) ≡ false
+pub openOfTwo : isImage (set (blank 3) at.isOpen 2) ≡ false
 unfolding isImage every _and_
 openOfTwo = refl
 
-pub markedOfTwo : isImage (set (blank 2) lastMark 2) ≡ false
+pub markedOfTwo : isImage (set (blank 3) lastMark 2) ≡ false
 unfolding isImage every _and_
 markedOfTwo = refl

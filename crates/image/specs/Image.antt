@@ -28,8 +28,8 @@ flagWord b = cond b 1 0
 abbrev pub countWord : ℕ → ℕ → ℕ
 countWord most n = cond (leb n most) n (most + 1)
 
-abbrev pub wordsOfHead : Bool → Day → List ℕ
-wordsOfHead isOpen d = formatNumber ∷ flagWord isOpen ∷ d .year ∷ d .month ∷ d .day ∷ d .left ∷ []
+abbrev pub wordsOfHead : ℕ → Bool → Day → List ℕ
+wordsOfHead edition isOpen d = formatNumber ∷ edition ∷ flagWord isOpen ∷ d .year ∷ d .month ∷ d .day ∷ d .left ∷ []
 
 abbrev pub wordsOfLimit : Limit → List ℕ
 wordsOfLimit l = l .initial ∷ l .expanded ∷ []
@@ -48,7 +48,7 @@ wordsOfSheet s = countWord maxContracts (s .len) ∷ flat wordsOfContract (s .co
 
 unfoldable pub wordsOfBook : Book → List ℕ
 wordsOfBook b =
-    wordsOfHead (b .«is_open») (b .day)
+    wordsOfHead (b .edition) (b .«is_open») (b .day)
     ++ flat wordsOfLimit (b .limits)
     ++ flat wordsOfStanding (b .standings)
     ++ wordsOfWindows (b .windows)
@@ -81,6 +81,7 @@ dayOf ws =
 abbrev pub asBook : List ℕ → Book
 asBook ws =
     record {
+      edition = getD ws at.edition 0;
       limits = chunks limitWords limitOf productCount (part at.limits (productCount * limitWords) ws);
       standings = chunks standingWords standingOf groupCount (part at.standings (groupCount * standingWords) ws);
       windows = windowsOf (part at.windows windowsWords ws);

@@ -6,7 +6,7 @@ use Rattle.record.specs.State.{groupCount, maxContracts}
 
 -- the format of the images that are made and taken; another layout has another number
 abbrev pub formatNumber : ℕ
-formatNumber = 2
+formatNumber = 3
 
 abbrev pub limitWords : ℕ
 limitWords = 2
@@ -32,8 +32,11 @@ eventWords = 3
 abbrev pub format : ℕ
 format = 0
 
+abbrev pub edition : ℕ
+edition = format + 1
+
 abbrev pub isOpen : ℕ
-isOpen = format + 1
+isOpen = edition + 1
 
 abbrev pub year : ℕ
 year = isOpen + 1

@@ -39,10 +39,11 @@ pub(crate) fn read_book(w: &[u32]) -> Book
     ensures { λ r. ⌜ r ≡ bookIn (now (w .entry)) ⌝ }
 {
     if !is_image(w) {
-        let none = book::found([0; PRODUCT_COUNT]);
+        let none = book::found(0, [0; PRODUCT_COUNT]);
         let b = none.book;
         return b;
     }
+    let edition = w[places::EDITION];
     let day = Day {
         year: w[places::YEAR],
         month: w[places::MONTH],
@@ -56,6 +57,7 @@ pub(crate) fn read_book(w: &[u32]) -> Book
     let today = sheets_in(&w[places::TODAY..places::LAST]);
     let last = sheets_in(&w[places::LAST..places::RENEWED]);
     Book {
+        edition,
         limits,
         standings,
         windows,
@@ -67,11 +69,12 @@ pub(crate) fn read_book(w: &[u32]) -> Book
 }
 
 // All before the limits.
-fn write_head(out: &mut [u32], is_open: bool, day: Day)
+fn write_head(out: &mut [u32], edition: u32, is_open: bool, day: Day)
     requires { ⌜ length (now out) ≡ at.limits ⌝ }
-    ensures { λ r. ⌜ now (out .exit) ≡ wordsOfHead is_open day ⌝ }
+    ensures { λ r. ⌜ now (out .exit) ≡ wordsOfHead edition is_open day ⌝ }
 {
     out[places::FORMAT] = places::FORMAT_NUMBER;
+    out[places::EDITION] = edition;
     out[places::IS_OPEN] = flag_word(is_open);
     out[places::YEAR] = day.year;
     out[places::MONTH] = day.month;
@@ -85,7 +88,12 @@ pub(crate) fn write_book(w: &mut [u32], b: Book)
     ensures { λ r. ⌜ BookPut (now (w .entry)) b (now (w .exit)) ⌝ }
 {
     let day = b.day;
-    write_head(&mut w[places::FORMAT..places::LIMITS], b.is_open, day);
+    write_head(
+        &mut w[places::FORMAT..places::LIMITS],
+        b.edition,
+        b.is_open,
+        day,
+    );
     let limits = b.limits;
     put_limits(&mut w[places::LIMITS..places::STANDINGS], limits);
     let standings = b.standings;

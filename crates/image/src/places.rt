@@ -5,7 +5,7 @@ use record::GROUP_COUNT;
 use record::MAX_CONTRACTS;
 
 // The format of the images that are made and taken; another layout has another number.
-pub const FORMAT_NUMBER: u32 = 2;
+pub const FORMAT_NUMBER: u32 = 3;
 
 pub const LIMIT_WORDS: usize = 2;
 
@@ -27,7 +27,9 @@ pub const EVENT_WORDS: usize = 3;
 
 pub const FORMAT: usize = 0;
 
-pub const IS_OPEN: usize = FORMAT + 1;
+pub const EDITION: usize = FORMAT + 1;
+
+pub const IS_OPEN: usize = EDITION + 1;
 
 pub const YEAR: usize = IS_OPEN + 1;
 

@@ -32,6 +32,7 @@ pub record OpenedOn (b : Book) (d : Day) (z : Book) : Type 0 where
   pub standings : (g : ℕ) → g < groupCount → standingIn z g ≡ standingOn (any (renewedOn b d) (productsOf g)) (standingIn b g)
   pub today : z .today ≡ b .today
   pub last : z .last ≡ b .last
+  pub edition : z .edition ≡ b .edition
   pub day : z .day ≡ d
   pub isOpen : z .«is_open» ≡ true
 
@@ -69,7 +70,7 @@ module _ (b : Book) (d : Day) (z : Book) (on : OpenedOn b d z) where
 
   common-opened : isTrueDay d ≡ true → viewCommon z ≡ nextCommon (viewCommon b) (opening d)
   unfolding viewCommon nextCommon
-  common-opened t = rw (on .day, on .isOpen, opened-is d t)
+  common-opened t = rw (on .edition, on .day, on .isOpen, opened-is d t)
 
   pub opened-view : isTrueDay d ≡ true → view z ≡ next (view b) (opening d)
   opened-view t = next-view b z (opening d) (common-opened t) group-opened

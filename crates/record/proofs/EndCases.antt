@@ -5,6 +5,7 @@ use mathlib.Core.Bool.{true, false}
 use mathlib.Core.List.{List, [], _∷_, _++_, map}
 use lib.ListN.{replicate}
 use Rattle.record.specs.State.{Day, initial, expanded}
+use Rattle.record.specs.Edition.{of2023}
 use Rattle.record.specs.Founding.{Start, founded}
 use Rattle.record.specs.End.{eventOf, Quiet, Triggered, Held, Reverted, Raised}
 use Rattle.record.specs.Record.{Call, opening, sheet, end, ended}
@@ -277,7 +278,7 @@ raisedByOilAndMeal = in-one-run _ _ _ _ refl
 
 -- Soybeans at 1,000,000
 abbrev soybeansAtMost : Start
-soybeansAtMost = record { limits = 200 ∷ 1000000 ∷ 200 ∷ 200 ∷ 240 ∷ 240 ∷ 160 ∷ 100 ∷ [] }
+soybeansAtMost = record { edition = 2023; limits = 200 ∷ 1000000 ∷ 200 ∷ 200 ∷ 240 ∷ 240 ∷ 160 ∷ 100 ∷ [] }
 
 -- Oil raises the Complex twice: Soybeans reach the cap, I = E = 2,000,000
 pub capReached :
@@ -357,7 +358,7 @@ leadsByEvent = in-one-run _ _ _ _ refl
 -- ---- moves that no list of calls reaches, since a sheet with them is refused
 -- a move beyond I at the initial level is not exactly I: quiet
 pub beyondInitial :
-    eventOf initial false
+    eventOf of2023 initial false
     ((record { month = jul24; product = corn; isFirst = true; size = 202; initialLimit = 200; expandedLimit = 320 } ∷ []) ∷ [])
     ≡ Quiet
 unfolding stateOf
@@ -365,7 +366,7 @@ beyondInitial = refl
 
 -- a move beyond E is not exactly E: held where the ended day before is marked, not raised
 pub beyondExpanded :
-    eventOf expanded true
+    eventOf of2023 expanded true
     ((record { month = jul24; product = corn; isFirst = true; size = 322; initialLimit = 200; expandedLimit = 320 } ∷ []) ∷ [])
     ≡ Held (lead corn jul24)
 unfolding stateOf

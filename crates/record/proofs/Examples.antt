@@ -5,7 +5,7 @@ use mathlib.Core.Bool.{Bool}
 use mathlib.Core.List.{List, [], _∷_, _++_, map}
 use lib.ListN.{getD, replicate}
 use Rattle.grain.specs.Lists.{_and_, every, isAscending, sum}
-use Rattle.grain.specs.Products.{steps, floors, firsts, standardTicks, miniTicks, grainMonths, soybeanMonths, oilAndMealMonths, riceMonths, monthsTraded, tickOf, isTraded}
+use Rattle.grain.specs.Products.{steps, floors, firsts, lastCropMonths, standardTicks, miniTicks, grainMonths, soybeanMonths, oilAndMealMonths, riceMonths, monthsTraded, tickOf, isTraded, isLastCropMonth}
 use Rattle.grain.specs.Prices.{isOnTick}
 use Rattle.grain.specs.Amounts.{expandedBy, seasonBy, isFit}
 use Rattle.grain.specs.Dates.{isLeap, monthLength, isDate, contractMonth, seasonNumber, daysRemaining}
@@ -14,11 +14,12 @@ use Rattle.grain.specs.Check.{spanBy, verdict}
 use Rattle.grain.specs.declared.check.Span.{Span}
 use Rattle.record.specs.Choices.{concatMap}
 use Rattle.record.specs.State.{Day, Level, Product, Group, Record, withProducts, withWindow, groupTable, groupAt}
-use Rattle.record.specs.Founding.{Start, foundProduct, foundGroup, founded, isFitStart}
+use Rattle.record.specs.Founding.{Start, areFit, foundingRefusal, foundProduct, foundGroup, founded}
 use Rattle.record.specs.Opening.{isTrueDay, openingTests, isRenewed, openProduct, hasNewLimits, openGroup}
 use Rattle.record.specs.Sheet.{isMisshapen, hasBadMonth, hasBadSettlement, lacksContract, isBeyond, sheetTests, fileProduct, fileGroup}
 use Rattle.record.specs.Window.{collectedMonth, windowAfter}
 use Rattle.record.specs.Move.{productMoves, groupMoves}
+use Rattle.record.specs.Edition.{conditionsOf}
 use Rattle.record.specs.End.{Event, Quiet, Lead, eventOf, groupEvent, endProduct, endGroup}
 use Rattle.record.specs.Check.{termsTests, orderTests, judged}
 use Rattle.record.specs.Sound.{isSoundSheet, isSoundWindow, isSoundProduct, isSoundGroup, isSoundDate, isSound}
@@ -132,7 +133,7 @@ june27 = on 2024 6 27 1
 -- ---- books
 -- Corn at 200, the other products at their floors
 abbrev pub cornAt200 : Start
-cornAt200 = record { limits = 200 ∷ 400 ∷ 200 ∷ 200 ∷ 240 ∷ 240 ∷ 160 ∷ 100 ∷ [] }
+cornAt200 = record { edition = 2023; limits = 200 ∷ 400 ∷ 200 ∷ 200 ∷ 240 ∷ 240 ∷ 160 ∷ 100 ∷ [] }
 
 abbrev pub aBook : Record
 aBook = founded cornAt200
@@ -211,7 +212,7 @@ daysOf2025 calls (suc n) month day = calls (of2025 month day) ++ daysOf2025 call
 -- ---- what is computed
 -- The Record after a list of calls. Its line opens every definition of the Record, so that a vector names only this one.
 unfoldable pub stateOf : Record → List Call → Record
-unfolding _and_ every isAscending sum steps floors firsts standardTicks miniTicks grainMonths soybeanMonths oilAndMealMonths riceMonths monthsTraded tickOf isTraded isOnTick expandedBy seasonBy isFit isLeap monthLength isDate contractMonth seasonNumber daysRemaining isSpot spanBy verdict groupTable foundProduct foundGroup founded isFitStart isTrueDay openingTests isRenewed openProduct hasNewLimits openGroup isMisshapen hasBadMonth hasBadSettlement lacksContract isBeyond sheetTests fileProduct fileGroup collectedMonth windowAfter productMoves groupMoves eventOf groupEvent endProduct endGroup termsTests orderTests judged isSoundSheet isSoundWindow isSoundProduct isSoundGroup isSoundDate isSound isOutstanding tests refusal answer nextCommon nextGroup next respond stateAfter answers keptFrom
+unfolding _and_ every isAscending sum steps floors firsts lastCropMonths standardTicks miniTicks grainMonths soybeanMonths oilAndMealMonths riceMonths monthsTraded tickOf isTraded isLastCropMonth isOnTick expandedBy seasonBy isFit isLeap monthLength isDate contractMonth seasonNumber daysRemaining isSpot spanBy verdict groupTable foundProduct foundGroup founded areFit foundingRefusal isTrueDay openingTests isRenewed openProduct hasNewLimits openGroup isMisshapen hasBadMonth hasBadSettlement lacksContract isBeyond sheetTests fileProduct fileGroup collectedMonth windowAfter productMoves groupMoves conditionsOf eventOf groupEvent endProduct endGroup termsTests orderTests judged isSoundSheet isSoundWindow isSoundProduct isSoundGroup isSoundDate isSound isOutstanding tests refusal answer nextCommon nextGroup next respond stateAfter answers keptFrom
 stateOf r cs = stateAfter r cs
 
 -- the answers to further calls after a list of calls

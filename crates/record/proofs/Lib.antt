@@ -18,11 +18,13 @@ pub mod Settled
 pub mod Resending
 pub mod StaysSound
 pub mod StaysFree
+pub mod Editions
 pub mod Proved
 pub mod Examples
 pub mod Marked
 pub mod EndCases
 pub mod WheatCases
+pub mod EditionCases
 pub mod SeasonCases
 pub mod SeasonStartCases
 pub mod WindowCases

@@ -1,39 +1,43 @@
 -- Refused foundings, openings, sheets and ends, computed.
 use Prim.Native.Nat.{ℕ}
 use mathlib.Core.Path.{_≡_, refl}
-use mathlib.Core.Bool.{true, false}
-use mathlib.Core.List.{List, [], _∷_, _++_}
+use mathlib.Core.Bool.{false}
+use mathlib.Core.List.{List, [], _∷_, _++_, map}
+use mathlib.Core.Option.{Option, some, none}
 use lib.ListN.{replicate, take}
 use Rattle.grain.specs.Dates.{contractMonth}
-use Rattle.record.specs.Founding.{isFitStart}
+use Rattle.record.specs.Founding.{foundingRefusal}
 use Rattle.record.specs.Record.{Call, opening, sheet, end, Answer, refused, opened, filed}
 use Rattle.record.proofs.Examples.{corn, oil, jul24, aug24, sep24, oct24, dec24, mar25, may25, jul25, june3, june4, june5, june26, june27, on, cornAt200, aBook, oneContract, cornMonths, cornDay, flat, stateOf, answersAfter}
 
--- ---- founding: 13
--- the example book's limits are fit
-pub fit : isFitStart cornAt200 ≡ true
+-- ---- founding: 17 13
+abbrev foundingOf : ℕ → List ℕ → Option ℕ
+foundingOf edition limits = foundingRefusal (record { edition = edition; limits = limits })
+
+-- the ends of the range are fit, under both editions
+abbrev ends : List ℕ
+ends = 160 ∷ 1000000 ∷ 1000000 ∷ 200 ∷ 240 ∷ 240 ∷ 160 ∷ 1000000 ∷ []
+
+pub fit : foundingRefusal cornAt200 ∷ foundingOf 2014 ends ∷ foundingOf 2023 ends ∷ [] ≡ replicate 3 none
 unfolding stateOf
 fit = refl
 
--- the ends of the range are fit
-pub fitEnds : isFitStart (record { limits = 160 ∷ 1000000 ∷ 1000000 ∷ 200 ∷ 240 ∷ 240 ∷ 160 ∷ 1000000 ∷ [] }) ≡ true
+-- Oil off its step; Soybeans below their floor; Rough Rice above 1,000,000; no limit for Rough Rice
+pub unfit :
+    foundingOf 2014 (200 ∷ 400 ∷ 240 ∷ 200 ∷ 240 ∷ 240 ∷ 160 ∷ 100 ∷ [])
+    ∷ foundingOf 2023 (200 ∷ 360 ∷ 200 ∷ 200 ∷ 240 ∷ 240 ∷ 160 ∷ 100 ∷ [])
+    ∷ foundingOf 2023 (200 ∷ 400 ∷ 200 ∷ 200 ∷ 240 ∷ 240 ∷ 160 ∷ 1000010 ∷ [])
+    ∷ foundingOf 2023 (200 ∷ 400 ∷ 200 ∷ 200 ∷ 240 ∷ 240 ∷ 160 ∷ [])
+    ∷ []
+    ≡ replicate 4 (some 13)
 unfolding stateOf
-fitEnds = refl
+unfit = refl
 
--- Oil off its step
-pub offTheStep : isFitStart (record { limits = 200 ∷ 400 ∷ 240 ∷ 200 ∷ 240 ∷ 240 ∷ 160 ∷ 100 ∷ [] }) ≡ false
+-- no edition, the years about the two included; 17 before 13
+pub noEdition :
+    map (λ e. foundingOf e ends) (0 ∷ 2013 ∷ 2015 ∷ 2022 ∷ 2024 ∷ []) ++ (foundingOf 2019 [] ∷ []) ≡ replicate 6 (some 17)
 unfolding stateOf
-offTheStep = refl
-
--- Soybeans below their floor
-pub belowTheFloor : isFitStart (record { limits = 200 ∷ 360 ∷ 200 ∷ 200 ∷ 240 ∷ 240 ∷ 160 ∷ 100 ∷ [] }) ≡ false
-unfolding stateOf
-belowTheFloor = refl
-
--- Rough Rice above 1,000,000
-pub aboveTheMost : isFitStart (record { limits = 200 ∷ 400 ∷ 200 ∷ 200 ∷ 240 ∷ 240 ∷ 160 ∷ 1000010 ∷ [] }) ≡ false
-unfolding stateOf
-aboveTheMost = refl
+noEdition = refl
 
 -- ---- opening: 2 3 4 16
 abbrev openedAnew : Answer

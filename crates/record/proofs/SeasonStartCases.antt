@@ -3,6 +3,7 @@ use Prim.Native.Nat.{ℕ}
 use mathlib.Core.Path.{_≡_, refl}
 use mathlib.Core.Bool.{true, false, cond}
 use mathlib.Core.List.{List, [], _∷_, _++_, map}
+use mathlib.Core.Option.{some}
 use lib.Dec.{eqb}
 use Rattle.grain.specs.declared.check.Verdict.the-variants.{Within, Above}
 use Rattle.record.specs.State.{Day, Record, initial, expanded, withLevel, withMark}
@@ -139,6 +140,20 @@ pub firstOfAll :
     ≡ record { events = []; level = expanded; mark = true; limits = limits 200 320 ∷ [] }
 unfolding stateOf
 firstOfAll = in-one-run _ _ _ _ refl
+
+-- the same under 2014, where an expanded group has no mark, after a day of the season before
+abbrev allExpanded : Record
+allExpanded =
+    record {
+      common = record { edition = 2014; opened = some (on 2025 4 30 0); isOpen = false };
+      groups = map (withLevel expanded) (collected 45 .groups);
+    }
+
+pub narrowUnder2014 :
+    outcome allExpanded cornGroup (opening may1 ∷ [])
+    ≡ record { events = []; level = initial; mark = false; limits = limits 440 680 ∷ [] }
+unfolding stateOf
+narrowUnder2014 = in-one-run _ _ _ _ refl
 
 -- ---- the dropped mark
 -- the first day of the season allows I and not E

@@ -46,15 +46,16 @@ found-in p (q ∷ l) s t e = go (eqb (q .number) p) refl (found-in p l s (and-ri
     go true f later h = record { sound = and-left _ _ t; number = eqb-true _ _ f }
     go false f later h = later h
 
-no-group-sound : isSoundGroup noGroup ≡ true
+no-group-sound : (edition : ℕ) → isSoundGroup edition noGroup ≡ true
 unfolding every isSoundGroup _and_
-no-group-sound = refl
+no-group-sound edition = refl
 
-group-sound : (gs : List Group) (k : ℕ) → every isSoundGroup gs ≡ true → isSoundGroup (getD gs k noGroup) ≡ true
+group-sound : (edition : ℕ) (gs : List Group) (k : ℕ) → every (isSoundGroup edition) gs ≡ true
+    → isSoundGroup edition (getD gs k noGroup) ≡ true
 unfolding every
-group-sound [] k t = no-group-sound
-group-sound (g ∷ gs) zero t = and-left _ _ t
-group-sound (g ∷ gs) (suc k) t = group-sound gs k (and-right _ _ t)
+group-sound edition [] k t = no-group-sound edition
+group-sound edition (g ∷ gs) zero t = and-left _ _ t
+group-sound edition (g ∷ gs) (suc k) t = group-sound edition gs k (and-right _ _ t)
 
 -- I and E of a product are fit amounts
 fit-at : (l : Level) (n i e : ℕ) → Limits n i e → isFitAmount n (limitAt l i e) ≡ true
@@ -64,7 +65,7 @@ fit-at expanded n i e f = rw (f .expanded) (expanded-fit n i (f .fit))
 module _ (r : Record) (sound : isSound r ≡ true) (p : ℕ) where
   products-sound : every isSoundProduct (groupAt r (groupOf p) .products) ≡ true
   unfolding isSound isSoundGroup
-  products-sound = and-right _ _ (group-sound (r .groups) (groupOf p) (and-right _ _ (and-left _ _ (and-left _ _ sound))))
+  products-sound = and-right _ _ (group-sound (r .common .edition) (r .groups) (groupOf p) (and-right _ _ (and-left _ _ (and-left _ _ sound))))
 
   pub record Rests (x : ℕ) : Type 0 where
     pub settled : isSettlement p x ≡ true

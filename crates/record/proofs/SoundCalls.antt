@@ -10,6 +10,7 @@ use Rattle.grain.proofs.Tests.{and-left, and-right, both}
 use Rattle.grain.proofs.Every.{every-map, every-mapped, every-unless}
 use Rattle.record.specs.Choices.{isSome}
 use Rattle.record.specs.State.{Day, Sheet, Product, Group, Common, Record, dayOf, monthOf}
+use Rattle.record.specs.Edition.{isEdition}
 use Rattle.record.specs.Opening.{isTrueDay, openingTests, openProduct, openGroup}
 use Rattle.record.specs.Sheet.{contracts, sheetTests, fileProduct, fileGroup}
 use Rattle.record.specs.End.{groupEvent, endProduct, endGroup}
@@ -22,8 +23,9 @@ use Rattle.record.proofs.SoundGroups.{open-group, file-group, end-group
 
 -- what soundness says of the Record, test by test
 pub record Facts (r : Record) : Type 0 where
+  pub edition : isEdition (r .common .edition) ≡ true
   pub date : isSoundDate (r .common .opened) (r .common .isOpen) ≡ true
-  pub groups : every isSoundGroup (r .groups) ≡ true
+  pub groups : every (isSoundGroup (r .common .edition)) (r .groups) ≡ true
   pub resting : r .common .isOpen || everyProduct hasNoSheetIn (r .groups) ≡ true
   pub lasts : (isSome (r .common .opened) and everyProduct hasLast (r .groups)) || everyProduct hasNoLast (r .groups) ≡ true
 
@@ -32,11 +34,18 @@ unfolding isSound
 facts r t =
     let t₃ = and-left _ _ t in
     let t₂ = and-left _ _ t₃ in
-    record { date = and-left _ _ t₂; groups = and-right _ _ t₂; resting = and-right _ _ t₃; lasts = and-right _ _ t }
+    let t₁ = and-left _ _ t₂ in
+    record {
+      edition = and-left _ _ t₁;
+      date = and-right _ _ t₁;
+      groups = and-right _ _ t₂;
+      resting = and-right _ _ t₃;
+      lasts = and-right _ _ t;
+    }
 
 pub facts-sound : (r : Record) → Facts r → isSound r ≡ true
 unfolding isSound
-facts-sound r f = both _ _ (both _ _ (both _ _ (f .date) (f .groups)) (f .resting)) (f .lasts)
+facts-sound r f = both _ _ (both _ _ (both _ _ (both _ _ (f .edition) (f .date)) (f .groups)) (f .resting)) (f .lasts)
 
 -- a change of the products that leaves their last ended sheets
 module _ (k : Group → Group) (m : Product → Product) (changes : (g : Group) → k g .products ≡ map m (g .products))
@@ -60,8 +69,9 @@ opened-sound r d t f =
     let c = r .common in
     let left = lasts-left (openGroup c d) (openProduct c d) (λ g. refl) (λ q. refl) in
     record {
+      edition = f .edition;
       date = t;
-      groups = every-map _ (openGroup c d) isSoundGroup (open-group c d) (r .groups) (f .groups);
+      groups = every-map _ (openGroup c d) (isSoundGroup (c .edition)) (open-group c d) (r .groups) (f .groups);
       resting = refl;
       lasts =
           rw (left isSome (r .groups), left (λ o. not (isSome o)) (r .groups)) (dated (isSome (c .opened)) _ _ (f .lasts));
@@ -74,8 +84,9 @@ filed-sound r p ms ss o u f =
     let s = contracts ms ss in
     let left = lasts-left (fileGroup p s) (fileProduct p s) (λ g. refl) (λ q. refl) in
     record {
+      edition = f .edition;
       date = f .date;
-      groups = every-map _ (fileGroup p s) isSoundGroup (file-group p s u) (r .groups) (f .groups);
+      groups = every-map _ (fileGroup p s) (isSoundGroup (r .common .edition)) (file-group (r .common .edition) p s u) (r .groups) (f .groups);
       resting = rw o;
       lasts = rw (left isSome (r .groups), left (λ o. not (isSome o)) (r .groups)) (f .lasts);
     }
@@ -93,7 +104,7 @@ closed none b t = refl
 closed (some d) b t = t
 
 -- after an end no sheet is in, and every product has a last ended one
-end-rests : (c : Common) (g : Group) → isSoundGroup g ≡ true → every hasNoSheetIn (endGroup c g .products) ≡ true
+end-rests : (c : Common) (g : Group) → isSoundGroup (c .edition) g ≡ true → every hasNoSheetIn (endGroup c g .products) ≡ true
 unfolding isSoundGroup endGroup endProduct
 end-rests c g t =
     every-map isSoundProduct (endProduct (dayOf c) (groupEvent c g)) hasNoSheetIn (λ q u. refl) (g .products) (and-right _ _ t)
@@ -109,8 +120,9 @@ ended-sound r o n f =
     let c = r .common in
     let lasts : everyProduct hasLast (map (endGroup c) (r .groups)) ≡ true = every-unless _ (endGroup c) _ (end-lasts c) (r .groups) n in
     record {
+      edition = f .edition;
       date = closed (c .opened) (c .isOpen) (f .date);
-      groups = every-map _ (endGroup c) isSoundGroup (end-group c) (r .groups) (f .groups);
+      groups = every-map _ (endGroup c) (isSoundGroup (c .edition)) (end-group c) (r .groups) (f .groups);
       resting = every-map _ (endGroup c) _ (end-rests c) (r .groups) (f .groups);
       lasts = rw (both _ _ (open-opened (c .opened) (c .isOpen) (f .date) o) lasts);
     }

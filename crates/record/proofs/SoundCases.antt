@@ -100,6 +100,25 @@ pub markOnInitial : isSound (book noDate initial true (cornWith 200 320 [] none 
 unfolding stateOf
 markOnInitial = refl
 
+-- the same group, expanded, with a mark and without, under an edition
+abbrev expandedUnder : ℕ → Bool → Record
+expandedUnder edition mark =
+    book (record { edition = edition; opened = none; isOpen = false }) expanded mark (cornWith 200 320 [] none none)
+
+-- under 2023 a mark is sound, under 2014 it is not
+pub marks :
+    isSound (expandedUnder 2023 true) ∷ isSound (expandedUnder 2014 false) ∷ isSound (expandedUnder 2014 true) ∷ []
+    ≡ true ∷ true ∷ false ∷ []
+unfolding stateOf
+marks = refl
+
+-- no edition: every call is refused with 1
+pub noEdition :
+    answersAfter (expandedUnder 2015 false) [] (opening june3 ∷ unmoved corn ∷ end ∷ check corn 0 jul24 4000 ∷ [])
+    ≡ replicate 4 (refused 1)
+unfolding stateOf
+noEdition = refl
+
 -- a window of 46
 pub longWindow : isSound (withWindow (replicate 46 6000)) ≡ false
 unfolding stateOf

@@ -13,7 +13,7 @@ use Rattle.grain.proofs.Judged.{is-free, free-only}
 use Rattle.grain.proofs.Spots.{still-spot}
 use Rattle.record.specs.Choices.{isSome, orElse}
 use Rattle.record.specs.State.{Day, Record, noDay, dayOf, monthOf, tradeDate, isSpotOn}
-use Rattle.record.specs.Founding.{Start, isFitStart, founded}
+use Rattle.record.specs.Founding.{Start, foundingRefusal, founded}
 use Rattle.record.specs.Opening.{isTrueDay, dateNumber, isNotLater, isSameMonth, isLeftNotSmaller, openingTests}
 use Rattle.record.specs.Check.{judged}
 use Rattle.record.specs.Sound.{isSoundDate, isSound}
@@ -113,7 +113,7 @@ module _ (r : Record) (p size month price : ℕ) (v : Verdict) (e : respond r (c
       let spot : isSpotOn (dayOf (r .common)) month ≡ true = sym since ∙ h in
       sym (passed r p size month price v e .is) ∙ rw spot (is-free _ _ _ price)
 
-pub stays-free : (s : Start) → isFitStart s ≡ true → (cs ds : List Call) (p q i j month x y : ℕ) (v : Verdict)
+pub stays-free : (s : Start) → foundingRefusal s ≡ none → (cs ds : List Call) (p q i j month x y : ℕ) (v : Verdict)
     → checkAfter s cs p i month x ≡ checked Free → checkAfter s (cs ++ ds) q j month y ≡ checked v → v ≡ Free
 stays-free s f cs ds p q i j month x y v e h =
     let sound = always-sound (founded s) cs (founded-sound s f) in

@@ -4,31 +4,36 @@ use mathlib.Core.Path.{_≡_, refl}
 use mathlib.Core.Bool.{true, not}
 use mathlib.Core.List.{List, [], _∷_}
 use mathlib.Core.Option.{Option, some, none}
+use borrow.Author.Tests.{not-false}
 use lib.Dec.{eqb}
 use lib.ListN.{length}
 use Rattle.grain.specs.Lists.{_and_, every}
 use Rattle.grain.proofs.Tests.{and-right, both}
 use Rattle.grain.proofs.Every.{every-map}
-use Rattle.record.specs.Refusals.{unsound}
+use Rattle.grain.specs.Refusals.{unfitAmount}
+use Rattle.record.specs.Refusals.{when, unsound, unknownEdition}
+use Rattle.record.specs.Edition.{isEdition}
 use Rattle.record.specs.State.{Record, groupTable}
-use Rattle.record.specs.Founding.{Start, isFitStart, foundProduct, foundGroup, founded}
+use Rattle.record.specs.Founding.{Start, areFit, foundingRefusal, foundProduct, foundGroup, founded}
 use Rattle.record.specs.Opening.{openingTests}
 use Rattle.record.specs.Sheet.{sheetTests}
 use Rattle.record.specs.Check.{termsTests, orderTests}
 use Rattle.record.specs.Sound.{isSoundGroup, isSoundDate, isSound}
 use Rattle.record.specs.Record.{Call, opening, sheet, end, check, tests, refusal, answer, stateBy, respond, stateAfter, answers}
 use Rattle.record.specs.Theorems.{isRefusal}
-use Rattle.record.proofs.Cleared.{accepted-clear, not-returned}
+use Rattle.record.proofs.Cleared.{cleared, accepted-clear, not-returned}
 use Rattle.record.proofs.SoundGroups.{found-group}
 use Rattle.record.proofs.SoundCalls.{facts-sound, accepted-sound}
 
-pub founded-sound : (s : Start) → isFitStart s ≡ true → isSound (founded s) ≡ true
-unfolding _and_ every isFitStart groupTable founded foundGroup foundProduct isSoundDate
+pub founded-sound : (s : Start) → foundingRefusal s ≡ none → isSound (founded s) ≡ true
+unfolding _and_ every areFit foundingRefusal groupTable founded foundGroup foundProduct isSoundDate
 founded-sound s t =
+    let k = cleared (when (not (isEdition (s .edition))) unknownEdition ∷ when (not (areFit (s .limits))) unfitAmount ∷ []) t in
     facts-sound _
     record {
+      edition = not-false _ (k .0);
       date = refl;
-      groups = every-map _ (foundGroup s) isSoundGroup (found-group s) groupTable (and-right (eqb (length (s .limits)) 8) _ t);
+      groups = every-map _ (foundGroup s) (isSoundGroup (s .edition)) (found-group s) groupTable (and-right (eqb (length (s .limits)) 8) _ (not-false _ (k .1 .0)));
       resting = refl;
       lasts = refl;
     }

@@ -16,7 +16,7 @@ use Rattle.record.proofs.Examples.{corn, soybeans, oil, meal, chicagoWh
 
 -- Chicago Wheat at 240 and 360, KC Wheat at 320 and 480
 abbrev kcAt320 : Start
-kcAt320 = record { limits = 200 ∷ 400 ∷ 200 ∷ 200 ∷ 240 ∷ 320 ∷ 160 ∷ 100 ∷ [] }
+kcAt320 = record { edition = 2023; limits = 200 ∷ 400 ∷ 200 ∷ 200 ∷ 240 ∷ 320 ∷ 160 ∷ 100 ∷ [] }
 
 abbrev book : Record
 book = founded kcAt320

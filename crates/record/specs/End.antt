@@ -8,7 +8,8 @@ use Rattle.grain.specs.Amounts.{expandedOf}
 use Rattle.record.specs.Choices.{keep, concatMap}
 use Rattle.record.specs.State.{Day, Level, initial, expanded, Product, Group, Common, withLevel, withMark, withProducts, withLimits, withWindow, withSheets, dayOf, sheetOr}
 use Rattle.record.specs.Window.{windowAfter}
-use Rattle.record.specs.Move.{Move, groupMoves, isTrigger, isAtLeastInitial, isAtExpanded}
+use Rattle.record.specs.Move.{Move, groupMoves, isTrigger, isAtExpanded}
+use Rattle.record.specs.Edition.{Conditions, conditionsOf}
 -- the leading contract, and a group's event with it
 pub use Rattle.record.specs.declared.Lead.{Lead}
 pub use Rattle.record.specs.declared.Event.{Event}
@@ -32,20 +33,24 @@ abbrev pub ledBy : Option Lead → (Lead → Event) → Event → Event
 ledBy none event other = other
 ledBy (some l) event other = event l
 
+-- of a product's moves, those that trigger, if they are enough
+abbrev pub triggering : Conditions → List Move → List Move
+triggering k ms = let l = keep isTrigger ms in cond (k .areEnough l) l []
+
 -- those that raise: exactly E, where the ended day before is marked
 abbrev pub raising : Bool → List (List Move) → List Move
 raising true mss = concatMap (keep isAtExpanded) mss
 raising false mss = []
 
 -- from the moves of each product: an event's candidates are found in each, and are led together
-unfoldable pub eventOf : Level → Bool → List (List Move) → Event
-eventOf initial mark mss = ledBy (leading (concatMap (keep isTrigger) mss)) Triggered Quiet
-eventOf expanded mark mss =
+unfoldable pub eventOf : Conditions → Level → Bool → List (List Move) → Event
+eventOf k initial mark mss = ledBy (leading (concatMap (triggering k) mss)) Triggered Quiet
+eventOf k expanded mark mss =
     ledBy (leading (raising mark mss)) Raised
-    (ledBy (leading (concatMap (keep isAtLeastInitial) mss)) Held Reverted)
+    (ledBy (leading (concatMap (keep (k .isHolding)) mss)) Held Reverted)
 
 unfoldable pub groupEvent : Common → Group → Event
-groupEvent c g = eventOf (g .level) (g .mark) (groupMoves (dayOf c) g)
+groupEvent c g = eventOf (conditionsOf (c .edition)) (g .level) (g .mark) (groupMoves (dayOf c) g)
 
 abbrev pub levelAfter : Event → Level
 levelAfter Quiet = initial
@@ -54,7 +59,7 @@ levelAfter (Held l) = expanded
 levelAfter Reverted = initial
 levelAfter (Raised l) = initial
 
--- held with a move of exactly E is marked; every other event clears the mark
+-- held with a move of exactly E is marked, where there are marks; every other event clears the mark
 abbrev pub markAfter : Event → Bool → Bool
 markAfter Quiet atExpanded = false
 markAfter (Triggered l) atExpanded = false
@@ -80,5 +85,5 @@ unfoldable pub endGroup : Common → Group → Group
 endGroup c g =
     let d = dayOf c in
     let e = groupEvent c g in
-    withLevel (levelAfter e)
-    (withMark (markAfter e (any (any isAtExpanded) (groupMoves d g))) (withProducts (map (endProduct d e) (g .products)) g))
+    let marked = conditionsOf (c .edition) .hasMarks && any (any isAtExpanded) (groupMoves d g) in
+    withLevel (levelAfter e) (withMark (markAfter e marked) (withProducts (map (endProduct d e) (g .products)) g))

@@ -1,11 +1,12 @@
 pub mod Choices
 pub mod Refusals
 pub mod State
+pub mod Move
+pub mod Edition
 pub mod Founding
 pub mod Opening
 pub mod Sheet
 pub mod Window
-pub mod Move
 pub mod End
 pub mod Check
 pub mod Sound

@@ -5,7 +5,7 @@ use mathlib.Core.List.{List, [], _∷_, _++_, map}
 use mathlib.Core.Option.{Option, some, none}
 use lib.Dec.{leb, ltb, eqb}
 use Rattle.grain.specs.Lists.{distance}
-use Rattle.grain.specs.Products.{firstOf}
+use Rattle.grain.specs.Products.{firstOf, isLastCropMonth}
 use Rattle.record.specs.Choices.{keep}
 use Rattle.record.specs.State.{Day, Contract, Sheet, Product, Group, isSpotOn, sheetOr, settlementOn}
 
@@ -59,3 +59,7 @@ isAtLeastInitial m = leb (m .initialLimit) (m .size)
 -- exactly E
 abbrev pub isAtExpanded : Move → Bool
 isAtExpanded m = eqb (m .size) (m .expandedLimit)
+
+-- of the last month of its product's crop year
+abbrev pub isOfLastCropMonth : Move → Bool
+isOfLastCropMonth m = isLastCropMonth (m .product) (m .month)

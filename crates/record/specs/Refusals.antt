@@ -41,6 +41,10 @@ notListed = 14
 abbrev pub leftNotSmaller : ℕ
 leftNotSmaller = 16
 
+-- founding under no edition of the rule
+abbrev pub unknownEdition : ℕ
+unknownEdition = 17
+
 -- A test with the number that is returned where it applies.
 pub record Test : Type 0 where
   pub applies : Bool

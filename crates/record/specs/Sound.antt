@@ -1,6 +1,6 @@
 -- A sound Record: every field in its range, and the parts in agreement.
 use Prim.Native.Nat.{ℕ}
-use mathlib.Core.Bool.{Bool, true, false, not, _||_}
+use mathlib.Core.Bool.{Bool, true, false, not, _&&_, _||_}
 use mathlib.Core.List.{List, map}
 use mathlib.Core.Option.{Option, some, none}
 use lib.Dec.{leb, eqb}
@@ -11,6 +11,7 @@ use Rattle.grain.specs.Prices.{isSettlement}
 use Rattle.grain.specs.Amounts.{windowLength, expandedOf, isFitAmount}
 use Rattle.record.specs.Choices.{isSome}
 use Rattle.record.specs.State.{maxContracts, Day, Contract, Sheet, Level, initial, expanded, Product, Group, Record}
+use Rattle.record.specs.Edition.{isEdition, conditionsOf}
 use Rattle.record.specs.Opening.{isTrueDay}
 
 -- 1 to 16 contracts, months as in 7 without the date test, settlements on the standard tick
@@ -37,9 +38,10 @@ abbrev pub isExpanded : Level → Bool
 isExpanded initial = false
 isExpanded expanded = true
 
--- a mark only on an expanded group
-unfoldable pub isSoundGroup : Group → Bool
-isSoundGroup g = (not (g .mark) || isExpanded (g .level)) and every isSoundProduct (g .products)
+-- a mark only on an expanded group, of an edition that has marks
+unfoldable pub isSoundGroup : ℕ → Group → Bool
+isSoundGroup edition g =
+    (not (g .mark) || (isExpanded (g .level) && conditionsOf edition .hasMarks)) and every isSoundProduct (g .products)
 
 -- a date where a day is open
 unfoldable pub isSoundDate : Option Day → Bool → Bool
@@ -58,9 +60,10 @@ hasLast q = isSome (q .last)
 abbrev pub hasNoLast : Product → Bool
 hasNoLast q = not (isSome (q .last))
 
--- no sheet in while no day is open; last ended sheets all, with a date, or none
+-- an edition of the rule; no sheet in while no day is open; last ended sheets all, with a date, or none
 unfoldable pub isSound : Record → Bool
 isSound r =
-    isSoundDate (r .common .opened) (r .common .isOpen) and every isSoundGroup (r .groups)
+    isEdition (r .common .edition) and isSoundDate (r .common .opened) (r .common .isOpen)
+    and every (isSoundGroup (r .common .edition)) (r .groups)
     and (r .common .isOpen || everyProduct hasNoSheetIn (r .groups))
     and ((isSome (r .common .opened) and everyProduct hasLast (r .groups)) || everyProduct hasNoLast (r .groups))

@@ -43,6 +43,8 @@ pub record Group : Type 0 where
   pub products : List Product
 
 pub record Common : Type 0 where
+  -- the edition of the rule, by year
+  pub edition : ℕ
   -- the last opened day
   pub opened : Option Day
   pub isOpen : Bool
@@ -53,10 +55,10 @@ pub record Record : Type 0 where
 
 -- ---- the same with one part changed
 abbrev pub withOpened : Option Day → Common → Common
-withOpened o c = record { opened = o; isOpen = c .isOpen }
+withOpened o c = record { edition = c .edition; opened = o; isOpen = c .isOpen }
 
 abbrev pub withIsOpen : Bool → Common → Common
-withIsOpen b c = record { opened = c .opened; isOpen = b }
+withIsOpen b c = record { edition = c .edition; opened = c .opened; isOpen = b }
 
 abbrev pub withLevel : Level → Group → Group
 withLevel l g = record { level = l; mark = g .mark; products = g .products }

@@ -3,16 +3,17 @@ use Prim.Native.Nat.{ℕ, _<_, _≤_}
 use mathlib.Core.Path.{_≡_}
 use mathlib.Core.Bool.{Bool, true, false, not, _&&_}
 use mathlib.Core.List.{List, [], _∷_, _++_}
-use mathlib.Core.Option.{some}
+use mathlib.Core.Option.{some, none}
 use lib.Dec.{leb, eqb}
-use Rattle.grain.specs.Lists.{every, isIn, distance}
+use Rattle.grain.specs.Lists.{every, any, isIn, distance}
 use Rattle.grain.specs.Check.{spanIn, isWithin}
 use Rattle.grain.specs.declared.check.Span.{Span}
 use Rattle.grain.specs.declared.check.Verdict.{Verdict}
 use Rattle.grain.specs.declared.check.Verdict.the-variants.{Free, Within}
 use Rattle.record.specs.Refusals.{unsound}
 use Rattle.record.specs.State.{Level, Record, dayOf, tradeDate, isSpotOn, groupOf, groupAt, productIn, limitAt, todaysLimit, sheetOr}
-use Rattle.record.specs.Founding.{Start, isFitStart, founded}
+use Rattle.record.specs.Founding.{Start, foundingRefusal, founded}
+use Rattle.record.specs.End.{isRaised}
 use Rattle.record.specs.Check.{listed}
 use Rattle.record.specs.Sound.{isSound}
 use Rattle.record.specs.Record.{Call, check, Answer, refused, opened, filed, ended, checked, respond, stateAfter, answers}
@@ -36,6 +37,14 @@ isRefusal n (opened l) = false
 isRefusal n filed = false
 isRefusal n (ended l) = false
 isRefusal n (checked v) = false
+
+-- an end raised a group
+abbrev pub hasRaised : Answer → Bool
+hasRaised (refused n) = false
+hasRaised (opened l) = false
+hasRaised filed = false
+hasRaised (ended events) = any isRaised events
+hasRaised (checked v) = false
 
 -- ---- one level for a group
 
@@ -83,12 +92,17 @@ pub record Resent (r : Record) (p size month : ℕ) (s : Span) : Type 0 where
 -- ---- the theorems
 pub record Theorems : Type 0 where
   -- the Record stays sound, so that no call of a list answers 1
-  pub staysSound : (s : Start) → isFitStart s ≡ true → (cs : List Call) → isSound (after s cs) ≡ true
+  pub staysSound : (s : Start) → foundingRefusal s ≡ none → (cs : List Call) → isSound (after s cs) ≡ true
   pub neverUnsound :
-      (s : Start) → isFitStart s ≡ true → (cs : List Call)
+      (s : Start) → foundingRefusal s ≡ none → (cs : List Call)
       → every (λ a. not (isRefusal unsound a)) (answers (founded s) cs) ≡ true
   -- the state after a list is the replay of its history
   pub replayed : (s : Start) (cs : List Call) → after s cs ≡ replay (historyOf s cs) (founded s)
+  -- a book is of the edition that it was founded under, and under 2014 no group is raised
+  pub keepsEdition : (s : Start) (cs : List Call) → after s cs .common .edition ≡ s .edition
+  pub neverRaised :
+      (s : Start) → foundingRefusal s ≡ none → s .edition ≡ 2014 → (cs : List Call)
+      → every (λ a. not (hasRaised a)) (answers (founded s) cs) ≡ true
   -- the products of a group stand on one level
   pub together : (s : Start) (cs : List Call) → Together (after s cs)
   -- said of answers: of two products of one group, two prices, each between its product's limits, are both within or both not
@@ -103,7 +117,7 @@ pub record Theorems : Type 0 where
   -- a contract month that a check found free is free in every later check that is answered, of any product and price: the left falls
   -- within a month, so that a month once spot stays so
   pub staysFree :
-      (s : Start) → isFitStart s ≡ true → (cs ds : List Call) (p q i j month x y : ℕ) (v : Verdict)
+      (s : Start) → foundingRefusal s ≡ none → (cs ds : List Call) (p q i j month x y : ℕ) (v : Verdict)
       → checkAfter s cs p i month x ≡ checked Free → checkAfter s (cs ++ ds) q j month y ≡ checked v → v ≡ Free
   -- two lists with the same openings and ends accepted and the same sheets of one group on each day: the same day is open after both, or none
   pub sameDay :
@@ -115,6 +129,6 @@ pub record Theorems : Type 0 where
       → groupAt (after s cs) g ≡ groupAt (after s ds) g
   -- and any price check on it gets the same answer or refusal number
   pub sameChecks :
-      (s : Start) → isFitStart s ≡ true → (g : ℕ) (cs ds : List Call)
+      (s : Start) → foundingRefusal s ≡ none → (g : ℕ) (cs ds : List Call)
       → SameFor g (historyOf s cs) (historyOf s ds) → (p size month price : ℕ) → groupOf p ≡ g
       → checkAfter s cs p size month price ≡ checkAfter s ds p size month price

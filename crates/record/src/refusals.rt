@@ -18,3 +18,5 @@ pub const SHEET_OUTSTANDING: u32 = 12;
 pub const NOT_LISTED: u32 = 14;
 
 pub const LEFT_NOT_SMALLER: u32 = 16;
+
+pub const UNKNOWN_EDITION: u32 = 17;

@@ -20,7 +20,7 @@ pub struct State {
 
 // Before the first call.
 pub fn fresh() -> State {
-    let refused = book::found([0; PRODUCT_COUNT]);
+    let refused = book::found(0, [0; PRODUCT_COUNT]);
     let book = refused.book;
     State {
         founded: false,
@@ -29,8 +29,19 @@ pub fn fresh() -> State {
     }
 }
 
+// The edition, then a limit for each product.
 fn found(s: State, numbers: &Numbers, out: &mut Buffer) -> State {
-    let f = book::found(*numbers);
+    let limits = [
+        numbers[1],
+        numbers[2],
+        numbers[3],
+        numbers[4],
+        numbers[5],
+        numbers[6],
+        numbers[7],
+        numbers[8],
+    ];
+    let f = book::found(numbers[0], limits);
     if f.refusal != 0 {
         let mut next = s;
         next.at = put_refusal(out, s.at, f.refusal);

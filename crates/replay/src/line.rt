@@ -12,8 +12,10 @@ use crate::words::Word;
 use grain::PRODUCT_COUNT;
 use record::MAX_CONTRACTS;
 
-// A founding has the most: a limit for each product.
-pub type Numbers = [u32; PRODUCT_COUNT];
+// A founding has the most numbers: an edition, and a limit for each product.
+pub const MOST_NUMBERS: usize = 1 + PRODUCT_COUNT;
+
+pub type Numbers = [u32; MOST_NUMBERS];
 
 // One place more than a sheet has, so that too many can be told.
 pub const ENTRIES: usize = MAX_CONTRACTS + 1;
@@ -49,7 +51,7 @@ pub enum Line {
 
 pub fn numbers_of(call: Call) -> usize {
     match call {
-        Call::Found => PRODUCT_COUNT,
+        Call::Found => MOST_NUMBERS,
         Call::Open => 4,
         Call::End => 0,
         Call::Check => 4,
@@ -86,7 +88,7 @@ fn plain_word(call: Call, count: usize, word: Word, numbers: &mut Numbers) -> Li
     if numbers_of(call) <= count {
         return Line::NotCall;
     }
-    if PRODUCT_COUNT <= count {
+    if MOST_NUMBERS <= count {
         return Line::NotCall;
     }
     numbers[count] = n;

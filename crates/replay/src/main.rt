@@ -1,6 +1,5 @@
 // Reads a history of calls from standard input and answers it line by line on standard output, both in blocks.
 use crate::line::ENTRIES;
-use grain::PRODUCT_COUNT;
 use libc::STDIN_FILENO;
 
 mod asked;
@@ -15,6 +14,7 @@ use asked::Asked;
 use changes::State;
 use line::Entries;
 use line::Line;
+use line::MOST_NUMBERS;
 use line::Numbers;
 use text::Buffer;
 use words::Word;
@@ -104,7 +104,7 @@ fn turn(
 // Reads until the input ends. A proved loop has to end, so it counts its turns down from a number that no run uses up.
 fn main() {
     let mut out = io::large_buffer();
-    let mut numbers = [0u32; PRODUCT_COUNT];
+    let mut numbers = [0u32; MOST_NUMBERS];
     let mut months = [0u32; ENTRIES];
     let mut settlements = [0u32; ENTRIES];
     let mut r = start();

@@ -39,6 +39,7 @@ returns c =
     let b = k .args .b in
     let es = e .events-of .result in
     let z : Book = record {
+      edition = b .edition;
       limits = l .limits-after .result;
       standings = s .standings-after .result;
       windows = w .windows-after .result;
@@ -54,6 +55,7 @@ returns c =
       windows = w .windows-after .ensures;
       today = λ p h. rw (getD-replicate 8 p (c .none .result) noSheet h) (c .none .ensures);
       last = refl;
+      edition = refl;
       day = refl;
       isOpen = refl;
     } in

@@ -1,6 +1,9 @@
 // Whether a product's contract of a month moved as an event asks.
 ghost use mathlib.Core.Path.{_≡_};
 ghost use Prim.Native.Nat.{_≤_};
+ghost use mathlib.Core.Bool.{_&&_};
+ghost use lib.Dec.{ltb, eqb};
+ghost use Rattle.grain.specs.Products.{firstOf};
 ghost use Rattle.grain.specs.Spot.{isSpot};
 ghost use Rattle.record.specs.State.{maxContracts};
 ghost use Rattle.sheets.specs.Sheets.{contractsOf};
@@ -37,8 +40,27 @@ fn count_earlier(s: Sheet, month: u32, date: TradeDate) -> u32
     count
 }
 
-// `current` and `last` are the product's sheets, today's and that of the last ended day.
+// A move of exactly I, within the first N.
+fn is_trigger(
+    size: u32,
+    product: u32,
+    initial: u32,
+    current: Sheet,
+    month: u32,
+    date: TradeDate,
+) -> bool
+    requires { ⌜ current .len ≤ maxContracts ⌝ }
+    ensures { λ r. ⌜ r ≡ (ltb (countEarlier (isSpot date) month (contractsOf current)) (firstOf product) && eqb size initial) ⌝ }
+{
+    if size != initial {
+        return false;
+    }
+    count_earlier(current, month, date) < grain::first_contracts(product)
+}
+
+// `current` and `last` are the product's sheets, today's and that of the last ended day; `enough` says whether its moves can count at all.
 pub(crate) fn meets_in(
+    enough: bool,
     condition: Condition,
     product: u32,
     limit: Limit,
@@ -48,8 +70,11 @@ pub(crate) fn meets_in(
     date: TradeDate,
 ) -> bool
     requires { ⌜ (current .len ≤ maxContracts) × (last .len ≤ maxContracts) ⌝ }
-    ensures { λ r. ⌜ r ≡ meetsIn condition date product limit current last month ⌝ }
+    ensures { λ r. ⌜ r ≡ meetsIn enough condition date product limit current last month ⌝ }
 {
+    if !enough {
+        return false;
+    }
     if date.is_spot(month) {
         return false;
     }
@@ -61,12 +86,8 @@ pub(crate) fn meets_in(
     };
     let size = sheets::distance(x, y);
     match condition {
-        Condition::Trigger => {
-            if size != limit.initial {
-                return false;
-            }
-            count_earlier(current, month, date) < grain::first_contracts(product)
-        }
+        Condition::OneAtInitial => is_trigger(size, product, limit.initial, current, month, date),
+        Condition::TwoAtInitial => is_trigger(size, product, limit.initial, current, month, date),
         Condition::AtLeastInitial => limit.initial <= size,
         Condition::AtExpanded => size == limit.expanded,
     }

@@ -48,6 +48,7 @@ returns c =
     let renewed : answered .renewed-on .result ≡ map (renewedOn b d) allProducts = rw next at (answered .renewed-on .ensures) in
     let z : Book =
     record {
+      edition = b .edition;
       limits = limited .limits-on .result;
       standings = started .standings-on .result;
       windows = c .windows-on .result;
@@ -63,6 +64,7 @@ returns c =
       windows = λ p. rw other at (c .windows-on .ensures p);
       today = refl;
       last = refl;
+      edition = refl;
       day = refl;
       isOpen = refl;
     } in

@@ -75,5 +75,7 @@ pub(crate) fn put_book(out: &mut Buffer, at: usize, b: Book) -> usize {
     let f = put_groups(out, e, b);
     let g = put_products(out, f, b);
     let h = put_days(out, g, b);
-    put_byte(out, h, b'\n')
+    let i = put(out, h, b" edition=");
+    let j = put_number(out, i, b.edition);
+    put_byte(out, j, b'\n')
 }

@@ -40,7 +40,7 @@ returns c =
     let k = c .before .before .before in
     let test : ℕ → Bool = λ p. isFitFounding p (getD (k .before .args .t1) p 0) in
     let no : test (k .loop .p) ≡ false = sym (c .before .is-fit-founding .ensures) ∙ not-true _ (c .if1 .taken) in
-    sym (fit-is (record { limits = k .before .args .t1 }) (search needs) ∙ one-fails test productCount (k .loop .p) (search needs) no (k .loop .inv .1))
+    sym (fit-is (k .before .args .t1) (search needs) ∙ one-fails test productCount (k .loop .p) (search needs) no (k .loop .inv .1))
 
 add-p : tie.Need-add-p Inv-loop μ-loop
 add-p c = search needs
@@ -59,7 +59,7 @@ returns-2 : tie.Need-returns-2 Inv-loop μ-loop
 returns-2 c =
     let k = c .before in
     let test : ℕ → Bool = λ p. isFitFounding p (getD (k .before .args .t1) p 0) in
-    sym (fit-is (record { limits = k .before .args .t1 }) (search needs) ∙ none-left test productCount (k .loop .p) (search needs) (k .loop .inv .1))
+    sym (fit-is (k .before .args .t1) (search needs) ∙ none-left test productCount (k .loop .p) (search needs) (k .loop .inv .1))
 
 pub are-fit-spec : {M : Type 1} → statement M
 are-fit-spec =

@@ -1,27 +1,29 @@
 use borrow.Author.Needs.{needs}
 use Prim.Native.Nat.{_-_, _≤_}
+use mathlib.Core.Path.{_≡_, refl}
 use lib.ListN.{getD}
 use Rattle.record.specs.Founding.{Start}
 use Rattle.book.specs.Book.{noLimit}
+use Rattle.book.specs.Founding.{noBook}
 use Rattle.book.specs.declared.Limit.{Limit}
-use Rattle.book.proofs.Founded.{limitsFrom, Blank, no-book-blank, no-book-long, founded-shown}
+use Rattle.book.proofs.Founded.{limitsFrom, Blank, blank-with, no-book-blank, no-book-long, founded-shown}
 use Rattle.book.proofs.Filled.{Filled, filled-start, filled-next, filled-end}
 use Rattle.book.proofs.founding.fresh.Statement.{statement}
 use Rattle.book.proofs.founding.fresh.Tie as tie
 
 abbrev Inv-loop : tie.InvT-loop
-Inv-loop limits b₀ p₀ b p =
-    (p ≤ 8) × Blank b × Filled 8 noLimit (limitsFrom (record { limits = limits })) (λ q. getD (b₀ .limits) q noLimit) p (b .limits)
+Inv-loop edition limits b₀ p₀ b p =
+    (p ≤ 8) × (b .edition ≡ edition) × Blank b × Filled 8 noLimit (limitsFrom (record { edition = edition; limits = limits })) (λ q. getD (b₀ .limits) q noLimit) p (b .limits)
 
 abbrev μ-loop : tie.MeasureT-loop
-μ-loop limits b₀ p₀ b p = 8 - p
+μ-loop edition limits b₀ p₀ b p = 8 - p
 
 no-book-requires : tie.Need-no-book-requires Inv-loop μ-loop
 no-book-requires c κs = search needs
 
 loop-holds : tie.Need-loop-holds Inv-loop μ-loop
 loop-holds c =
-    (search needs, rw (c .no-book .ensures) no-book-blank, filled-start 8 noLimit _ _ (rw (c .no-book .ensures) no-book-long))
+    (search needs, refl, rw (c .no-book .ensures) (blank-with noBook no-book-blank _ _), filled-start 8 noLimit _ _ (rw (c .no-book .ensures) no-book-long))
 
 mul-initial : tie.Need-mul-initial Inv-loop μ-loop
 mul-initial c = search needs
@@ -35,8 +37,8 @@ cast-expanded c = search needs
 expanded-requires : tie.Need-expanded-requires Inv-loop μ-loop
 expanded-requires c κs = search needs
 
-mul-t8 : tie.Need-mul-t8 Inv-loop μ-loop
-mul-t8 c = search needs
+mul-t9 : tie.Need-mul-t9 Inv-loop μ-loop
+mul-t9 c = search needs
 
 element-set-from-b : tie.Need-element-set-from-b Inv-loop μ-loop
 element-set-from-b c = search needs
@@ -50,26 +52,19 @@ loop-less c = search needs
 loop-again : tie.Need-loop-again Inv-loop μ-loop
 loop-again c =
     let k = c .before .before in
-    let blank = k .loop .inv .1 in
-    let initial = getD (k .before .before .args .t1) (k .loop .p) 0 in
+    let initial = getD (k .before .before .args .t2) (k .loop .p) 0 in
     let v : Limit = record { initial = initial; expanded = c .expanded .result } in (
       search needs,
-      record {
-        standings = blank .standings;
-        windows = blank .windows;
-        today = blank .today;
-        last = blank .last;
-        day = blank .day;
-        isOpen = blank .isOpen;
-      },
-      filled-next 8 noLimit _ _ (k .loop .p) _ (k .loop .inv .2) (search needs) v (rw (c .expanded .ensures)),
+      k .loop .inv .1,
+      blank-with (k .loop .b) (k .loop .inv .2) _ _,
+      filled-next 8 noLimit _ _ (k .loop .p) _ (k .loop .inv .3) (search needs) v (rw (c .expanded .ensures)),
     )
 
 returns : tie.Need-returns Inv-loop μ-loop
 returns c =
     let k = c .before in
-    let s : Start = record { limits = k .before .before .args .t1 } in
-    founded-shown (k .loop .b) s (k .loop .inv .1) (filled-end 8 noLimit _ _ (k .loop .p) _ (k .loop .inv .2) (search needs))
+    let s : Start = record { edition = k .before .before .args .edition; limits = k .before .before .args .t2 } in
+    founded-shown (k .loop .b) s (k .loop .inv .1) (k .loop .inv .2) (filled-end 8 noLimit _ _ (k .loop .p) _ (k .loop .inv .3) (search needs))
 
 pub fresh-spec : {M : Type 1} → statement M
 fresh-spec =
@@ -83,7 +78,7 @@ fresh-spec =
     array-read-initial
     cast-expanded
     expanded-requires
-    mul-t8
+    mul-t9
     element-set-from-b
     add-p
     loop-less

@@ -14,11 +14,11 @@ use Rattle.book.proofs.soundness.are_marks_sound.Statement.{statement}
 use Rattle.book.proofs.soundness.are_marks_sound.Tie as tie
 
 abbrev Inv-loop : tie.InvT-loop
-Inv-loop standings g₀ g =
-    (g ≤ groupCount) × (every (λ g. isMarkSound (getD standings g noStanding)) allGroups ≡ every (λ g. isMarkSound (getD standings g noStanding)) (drop g allGroups))
+Inv-loop has-marks standings g₀ g =
+    (g ≤ groupCount) × (every (λ g. isMarkSound has-marks (getD standings g noStanding)) allGroups ≡ every (λ g. isMarkSound has-marks (getD standings g noStanding)) (drop g allGroups))
 
 abbrev μ-loop : tie.MeasureT-loop
-μ-loop standings g₀ g = groupCount - g
+μ-loop has-marks standings g₀ g = groupCount - g
 
 loop-holds : tie.Need-loop-holds Inv-loop μ-loop
 loop-holds c = search needs
@@ -35,7 +35,7 @@ is-mark-sound-requires c κs = search needs
 returns : tie.Need-returns Inv-loop μ-loop
 returns c =
     let k = c .before .before .before .before in
-    let test : ℕ → Bool = λ g. isMarkSound (getD (k .before .args .t1) g noStanding) in
+    let test : ℕ → Bool = λ g. isMarkSound (k .before .args .has-marks) (getD (k .before .args .t2) g noStanding) in
     let no : test (k .loop .g) ≡ false = sym (c .before .is-mark-sound .ensures) ∙ not-true _ (c .if1 .taken) in
     sym (one-fails test groupCount (k .loop .g) (search needs) no (k .loop .inv .1))
 
@@ -48,14 +48,14 @@ loop-less c = search needs
 loop-again : tie.Need-loop-again Inv-loop μ-loop
 loop-again c =
     let k = c .before .before .before .before in
-    let test : ℕ → Bool = λ g. isMarkSound (getD (k .before .args .t1) g noStanding) in
+    let test : ℕ → Bool = λ g. isMarkSound (k .before .args .has-marks) (getD (k .before .args .t2) g noStanding) in
     let yes : test (k .loop .g) ≡ true = sym (c .before .is-mark-sound .ensures) ∙ not-false _ (c .if1 .left) in
     (search needs, one-goes-on test groupCount (k .loop .g) (search needs) yes (k .loop .inv .1))
 
 returns-2 : tie.Need-returns-2 Inv-loop μ-loop
 returns-2 c =
     let k = c .before in
-    let test : ℕ → Bool = λ g. isMarkSound (getD (k .before .args .t1) g noStanding) in
+    let test : ℕ → Bool = λ g. isMarkSound (k .before .args .has-marks) (getD (k .before .args .t2) g noStanding) in
     sym (none-left test groupCount (k .loop .g) (search needs) (k .loop .inv .1))
 
 pub are-marks-sound-spec : {M : Type 1} → statement M

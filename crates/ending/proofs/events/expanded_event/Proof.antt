@@ -1,9 +1,11 @@
 use borrow.Author.Needs.{needs}
+use mathlib.Core.Path.{_∙_}
 use borrow.Author.Tests.{not-true, not-false}
 use Rattle.record.specs.End.{eventOf}
 use Rattle.record.specs.History.{productsOf}
 use Rattle.ending.specs.declared.lead.Condition.the-variants.{AtExpanded}
 use Rattle.ending.specs.Lead.{leadFor, movesOf}
+use Rattle.ending.proofs.Asked.{holding-is}
 use Rattle.ending.proofs.Founds.{nobody, found-at}
 use Rattle.ending.proofs.events.expanded_event.Statement.{statement}
 use Rattle.ending.proofs.events.expanded_event.Tie as tie
@@ -14,7 +16,9 @@ held-or-reverted-requires c κs = search needs
 returns : tie.Need-returns
 unfolding eventOf
 returns c =
-    rw (not-true (c .before .before .args .marked) (c .before .if1 .taken)) (c .held-or-reverted .ensures)
+    let a = c .before .before .args in
+    rw (not-true (a .marked) (c .before .if1 .taken))
+    (c .held-or-reverted .ensures ∙ rw (holding-is (a .b .edition) (movesOf (a .b) (a .date) (productsOf (a .g)))))
 
 leading-in-requires : tie.Need-leading-in-requires
 leading-in-requires c κs = search needs
@@ -35,7 +39,7 @@ returns-2 c =
     let h = k .before in
     let a = h .before .args in
     rw (not-false (a .marked) (h .if1 .left), nobody (leadFor AtExpanded (movesOf (a .b) (a .date) (productsOf (a .g)))) (k .leading-in .result) (k .leading-in .ensures) (c .before .enum-told .given .1))
-    (c .held-or-reverted2 .ensures)
+    (c .held-or-reverted2 .ensures ∙ rw (holding-is (a .b .edition) (movesOf (a .b) (a .date) (productsOf (a .g)))))
 
 returns-3 : tie.Need-returns-3
 unfolding eventOf

@@ -14,20 +14,20 @@ use Rattle.ending.proofs.lead.leading.Statement.{statement}
 use Rattle.ending.proofs.lead.leading.Tie as tie
 
 abbrev Inv-loop : tie.InvT-loop
-Inv-loop date condition lo hi b month found₀ next₀ p₀ found next p =
+Inv-loop date condition lo hi b enough month found₀ next₀ p₀ found next p =
     (lo ≤ p) × (p ≤ hi) × (found ≡ Nobody) × ClearAt (isMet b date condition) lo p month
     × (nextOf (b .today) month 0 (numbersFrom lo (hi - lo)) ≡ nextOf (b .today) month next (numbersFrom p (hi - p)))
     × (next < 2 ^ 32)
 
 abbrev μ-loop : tie.MeasureT-loop
-μ-loop date condition lo hi b month found₀ next₀ p₀ found next p = hi - p
+μ-loop date condition lo hi b enough month found₀ next₀ p₀ found next p = hi - p
 
 abbrev Inv-search : tie.InvT-search
-Inv-search date condition lo hi b month₀ found₀ month found =
+Inv-search date condition lo hi b enough month₀ found₀ month found =
     (found ≡ Nobody) × Clear (isMet b date condition) lo hi month
 
 abbrev μ-search : tie.MeasureT-search
-μ-search date condition lo hi b month₀ found₀ month found = 2 ^ 32 - month
+μ-search date condition lo hi b enough month₀ found₀ month found = 2 ^ 32 - month
 
 search-holds : tie.Need-search-holds Inv-loop μ-loop Inv-search μ-search
 search-holds c =
@@ -56,6 +56,9 @@ mul-limit c = search needs
 element-copy-out-limit : tie.Need-element-copy-out-limit Inv-loop μ-loop Inv-search μ-search
 element-copy-out-limit c = search needs
 
+array-read-meets-in : tie.Need-array-read-meets-in Inv-loop μ-loop Inv-search μ-search
+array-read-meets-in c = search needs
+
 cast-meets-in : tie.Need-cast-meets-in Inv-loop μ-loop Inv-search μ-search
 cast-meets-in c = search needs
 
@@ -64,8 +67,8 @@ meets-in-requires c κs =
     let sound = c .before .before .before .before .before .before .pre .2 in
     (sound .today _ (omega arith), sound .last _ (omega arith))
 
-cast-t26 : tie.Need-cast-t26 Inv-loop μ-loop Inv-search μ-search
-cast-t26 c = search needs
+cast-t30 : tie.Need-cast-t30 Inv-loop μ-loop Inv-search μ-search
+cast-t30 c = search needs
 
 next-in-requires : tie.Need-next-in-requires Inv-loop μ-loop Inv-search μ-search
 next-in-requires c κs =
@@ -89,7 +92,7 @@ loop-again c =
       k .loop .inv .2,
       λ q l h.
           below-more (λ (x : ℕ). a .lo ≤ x → isMet (a .t1) (a .date) (a .condition) x month ≡ false) (k .loop .p)
-          (λ x i j. k .loop .inv .3 x j i) (λ _. sym (c .before .before .meets-in .ensures) ∙ c .before .if1 .left) q h l,
+          (λ x i j. k .loop .inv .3 x j i) (λ _. rw (k .before .before .pre .3 _ (k .loop .inv .0) (omega arith)) at (sym (c .before .before .meets-in .ensures) ∙ c .before .if1 .left)) q h l,
       k .loop .inv .4 ∙ rw (more, c .next-in .ensures),
       c .next-in .ok,
     )
@@ -134,7 +137,7 @@ returns c =
     sym
     (ap foundAs
     (this-leads (a .t1) (a .date) (a .condition) (a .lo) (a .hi) (s .pre .0) (s .pre .1) (s .pre .2) _ (k .loop .p)
-    (k .before .search .inv .1) (k .loop .inv .0) (omega arith) (k .loop .inv .3) (sym (c .before .meets-in .ensures) ∙ c .if1 .taken)))
+    (k .before .search .inv .1) (k .loop .inv .0) (omega arith) (k .loop .inv .3) (rw (s .pre .3 _ (k .loop .inv .0) (omega arith)) at (sym (c .before .meets-in .ensures) ∙ c .if1 .taken))))
 
 returns-2 : tie.Need-returns-2 Inv-loop μ-loop Inv-search μ-search
 returns-2 c =
@@ -163,9 +166,10 @@ leading-spec =
     element-copy-out-last
     mul-limit
     element-copy-out-limit
+    array-read-meets-in
     cast-meets-in
     meets-in-requires
-    cast-t26
+    cast-t30
     next-in-requires
     add-p
     loop-less

@@ -3,21 +3,18 @@ use Prim.Native.Nat.{ℕ}
 use mathlib.Core.Path.{_≡_, refl, sym, _∙_}
 use mathlib.Core.Bool.{true, false}
 use mathlib.Core.List.{List}
+use mathlib.Core.Option.{some}
 use lib.ListN.{replicate}
 use borrow.Author.Tests.{not-true, not-false}
-use Rattle.grain.specs.Lists.{_and_, every}
-use Rattle.grain.specs.Products.{floors}
-use Rattle.grain.specs.Amounts.{isFit}
-use Rattle.record.specs.State.{groupTable}
-use Rattle.record.specs.Founding.{isFitStart}
+use Rattle.record.specs.Founding.{foundingRefusal}
 use Rattle.book.specs.Founding.{noBook}
 use Rattle.image.specs.Image.{isImage, asBook, bookIn}
 use Rattle.image.proofs.book_words.read_book.Statement.{statement}
 use Rattle.image.proofs.book_words.read_book.Tie as tie
 
-unfit : isFitStart (record { limits = replicate 8 0 }) ≡ false
-unfolding isFitStart groupTable isFit floors every _and_
-unfit = refl
+no-edition : foundingRefusal (record { edition = 0; limits = replicate 8 0 }) ≡ some 17
+unfolding foundingRefusal
+no-edition = refl
 
 none-in : (ws : List ℕ) → isImage ws ≡ false → noBook ≡ bookIn ws
 unfolding bookIn
@@ -37,19 +34,22 @@ returns : tie.Need-returns
 returns c =
     let k = c .before .before in
     let no = sym (k .before .is-image .ensures) ∙ not-true _ (k .if1 .taken) in
-    c .before .found .ensures .refused unfit ∙ none-in (k .before .before .before .args .w .now) no
+    c .before .found .ensures .refused _ no-edition ∙ none-in (k .before .before .before .args .w .now) no
+
+shared-slice-read-edition : tie.Need-shared-slice-read-edition
+shared-slice-read-edition c = search needs
 
 shared-slice-read-is-open : tie.Need-shared-slice-read-is-open
 shared-slice-read-is-open c = search needs
-
-shared-slice-read-t17 : tie.Need-shared-slice-read-t17
-shared-slice-read-t17 c = search needs
 
 shared-slice-read-t19 : tie.Need-shared-slice-read-t19
 shared-slice-read-t19 c = search needs
 
 shared-slice-read-t21 : tie.Need-shared-slice-read-t21
 shared-slice-read-t21 c = search needs
+
+shared-slice-read-t23 : tie.Need-shared-slice-read-t23
+shared-slice-read-t23 c = search needs
 
 shared-slice-read-is-open-2 : tie.Need-shared-slice-read-is-open-2
 shared-slice-read-is-open-2 c = search needs
@@ -120,7 +120,7 @@ returns-2 c =
     let w = l .before .before in
     let s = w .before .before in
     let i = s .before .before in
-    let k = i .before .before .before .before .before .before .before in
+    let k = i .before .before .before .before .before .before .before .before in
     let yes = sym (k .before .is-image .ensures) ∙ not-false _ (k .if1 .left) in
     rw (c .sheets-in2 .ensures, l .sheets-in .ensures, w .windows-in .ensures, s .standings-in .ensures, i .limits-in .ensures)
     (held-in (k .before .before .before .args .w .now) yes)
@@ -132,10 +132,11 @@ read-book-spec =
     is-image-requires
     found-requires
     returns
+    shared-slice-read-edition
     shared-slice-read-is-open
-    shared-slice-read-t17
     shared-slice-read-t19
     shared-slice-read-t21
+    shared-slice-read-t23
     shared-slice-read-is-open-2
     sub-limits-in
     part-limits-in-start
