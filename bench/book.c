@@ -22,7 +22,7 @@
 /* The same calls of both. */
 struct library {
     uint32_t (*found)(botskhela_book *, uint32_t, uint32_t, uint32_t, uint32_t, uint32_t, uint32_t,
-                      uint32_t, uint32_t);
+                      uint32_t, uint32_t, uint32_t);
     uint32_t (*open)(botskhela_book *, uint32_t, uint32_t, uint32_t, uint32_t);
     uint32_t (*sheet)(botskhela_book *, uint32_t, const uint32_t *, size_t, const uint32_t *,
                       size_t);
@@ -110,7 +110,7 @@ static int open_and_file(botskhela_book *book, uint32_t day)
 static int make_books(void)
 {
     botskhela_book book;
-    int refused = botskhela_found(&book, 200, 600, 250, 200, 240, 240, 160, 100) != 0;
+    int refused = botskhela_found(&book, BOTSKHELA_EDITION_2023, 200, 600, 250, 200, 240, 240, 160, 100) != 0;
 
     fill_arrays();
     for (uint32_t day = 0; day < DAYS; day++)
@@ -125,7 +125,7 @@ static uint32_t make_found(const struct library *library, botskhela_book *book, 
 {
     const uint32_t corn = FLOOR[BOTSKHELA_CORN] + STEP[BOTSKHELA_CORN] * (turn % 8);
 
-    return library->found(book, corn, 600, 250, 200, 240, 240, 160, 100);
+    return library->found(book, BOTSKHELA_EDITION_2023, corn, 600, 250, 200, 240, 240, 160, 100);
 }
 
 static uint32_t make_open(const struct library *library, botskhela_book *book, uint32_t turn)

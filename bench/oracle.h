@@ -4,9 +4,9 @@
 
 #include "botskhela.h"
 
-uint32_t oracle_found(botskhela_book *book, uint32_t corn, uint32_t soybeans, uint32_t soybean_oil,
-                      uint32_t soybean_meal, uint32_t chicago_wheat, uint32_t kc_wheat,
-                      uint32_t oats, uint32_t rough_rice);
+uint32_t oracle_found(botskhela_book *book, uint32_t edition, uint32_t corn, uint32_t soybeans,
+                      uint32_t soybean_oil, uint32_t soybean_meal, uint32_t chicago_wheat,
+                      uint32_t kc_wheat, uint32_t oats, uint32_t rough_rice);
 uint32_t oracle_open(botskhela_book *book, uint32_t year, uint32_t month, uint32_t day,
                      uint32_t left);
 uint32_t oracle_sheet(botskhela_book *book, uint32_t product, const uint32_t *months,

@@ -43,7 +43,7 @@ int main()
     const std::uint32_t july = 2024 * 12 + 7 - 1; // a month that all eight products trade
     botskhela_book book;
 
-    must(botskhela_found(&book, 200, 600, 250, 200, 240, 240, 160, 100));
+    must(botskhela_found(&book, BOTSKHELA_EDITION_2023, 200, 600, 250, 200, 240, 240, 160, 100));
     must(botskhela_open(&book, 2024, 6, 25, 3));
     for (std::uint32_t product = 0; product < BOTSKHELA_PRODUCTS; product++)
         file_sheet(book, product, {july}, {3600});

@@ -33,6 +33,7 @@ class Event(Structure):
 class Book(Structure):
     _fields_ = [
         ("format", u32),
+        ("edition", u32),
         ("is_open", u32),
         ("year", u32),
         ("month", u32),
@@ -52,16 +53,17 @@ class Span(Structure):
     _fields_ = [("answer", u32), ("lowest", u32), ("highest", u32)]
 
 
-assert sizeof(Book) == 4 * 951
+assert sizeof(Book) == 4 * 952
 assert sizeof(Span) == 4 * 3
 
 CORN = 0
 STANDARD = 0
+EDITION_2023 = 2023
 WITHIN = 101
 BELOW = 102
 ABOVE = 103
 
-library = CDLL("libbotskhela.so.2")
+library = CDLL("libbotskhela.so.3")
 
 
 def declared(name, *arguments, result=u32):
@@ -71,7 +73,7 @@ def declared(name, *arguments, result=u32):
     return function
 
 
-found = declared("found", POINTER(Book), *[u32] * PRODUCTS)
+found = declared("found", POINTER(Book), u32, *[u32] * PRODUCTS)
 open_day = declared("open", POINTER(Book), *[u32] * 4)
 file_sheet = declared("sheet", POINTER(Book), u32, POINTER(u32), c_size_t, POINTER(u32), c_size_t)
 end_day = declared("end", POINTER(Book))
@@ -101,7 +103,7 @@ def main():
     settlements = [3600]
     book = Book()
 
-    must(found(byref(book), 200, 600, 250, 200, 240, 240, 160, 100))
+    must(found(byref(book), EDITION_2023, 200, 600, 250, 200, 240, 240, 160, 100))
     must(open_day(byref(book), 2024, 6, 25, 3))
     for product in range(PRODUCTS):
         must(file_sheet(byref(book), product, numbers(july), len(july), numbers(settlements), len(settlements)))

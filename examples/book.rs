@@ -50,6 +50,7 @@ mod image {
     #[repr(C)]
     pub struct Book {
         pub format: u32,
+        pub edition: u32,
         pub is_open: u32,
         pub year: u32,
         pub month: u32,
@@ -75,11 +76,12 @@ struct Span {
     highest: u32,
 }
 
-const _: () = assert!(size_of::<Book>() == 4 * 951);
+const _: () = assert!(size_of::<Book>() == 4 * 952);
 const _: () = assert!(size_of::<Span>() == 4 * 3);
 
 const CORN: u32 = 0;
 const STANDARD: u32 = 0;
+const EDITION_2023: u32 = 2023;
 const WITHIN: u32 = 101;
 const BELOW: u32 = 102;
 const ABOVE: u32 = 103;
@@ -87,6 +89,7 @@ const ABOVE: u32 = 103;
 extern "C" {
     fn botskhela_found(
         book: *mut Book,
+        edition: u32,
         corn: u32,
         soybeans: u32,
         soybean_oil: u32,
@@ -123,11 +126,11 @@ fn accepted(refusal: u32) -> Result<(), Refused> {
 
 // A reference is what the calls ask of a pointer, and a slice what they ask of an array.
 impl Book {
-    fn found(limits: [u32; PRODUCTS]) -> Result<Book, Refused> {
+    fn found(edition: u32, limits: [u32; PRODUCTS]) -> Result<Book, Refused> {
         let [corn, soybeans, oil, meal, chicago, kc, oats, rice] = limits;
         // A founding looks at nothing that the image holds.
         let mut book: Book = unsafe { std::mem::zeroed() };
-        accepted(unsafe { botskhela_found(&mut book, corn, soybeans, oil, meal, chicago, kc, oats, rice) })?;
+        accepted(unsafe { botskhela_found(&mut book, edition, corn, soybeans, oil, meal, chicago, kc, oats, rice) })?;
         Ok(book)
     }
 
@@ -152,7 +155,7 @@ impl Book {
 
 fn main() -> Result<(), Refused> {
     let july = 2024 * 12 + 7 - 1; // a month that all eight products trade
-    let mut book = Book::found([200, 600, 250, 200, 240, 240, 160, 100])?;
+    let mut book = Book::found(EDITION_2023, [200, 600, 250, 200, 240, 240, 160, 100])?;
 
     book.open(2024, 6, 25, 3)?;
     for product in 0..PRODUCTS as u32 {

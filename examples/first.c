@@ -36,7 +36,7 @@ int main(void)
     const uint32_t settlements[] = {3600};
     botskhela_book book;
 
-    must(botskhela_found(&book, 200, 600, 250, 200, 240, 240, 160, 100));
+    must(botskhela_found(&book, BOTSKHELA_EDITION_2023, 200, 600, 250, 200, 240, 240, 160, 100));
     must(botskhela_open(&book, 2024, 6, 25, 3));
     for (uint32_t product = 0; product < BOTSKHELA_PRODUCTS; product++)
         must(botskhela_sheet(&book, product, july, 1, settlements, 1));

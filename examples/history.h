@@ -26,11 +26,11 @@ struct history {
 
 static inline int make_found(botskhela_book *book, const char *text, uint32_t *refusal)
 {
-    uint32_t n[8];
+    uint32_t n[9];
 
-    if (!read_numbers(text, n, 8))
+    if (!read_numbers(text, n, 9))
         return 0;
-    *refusal = botskhela_found(book, n[0], n[1], n[2], n[3], n[4], n[5], n[6], n[7]);
+    *refusal = botskhela_found(book, n[0], n[1], n[2], n[3], n[4], n[5], n[6], n[7], n[8]);
     return 1;
 }
 

@@ -61,6 +61,7 @@ static inline const char *refusal_name(uint32_t refusal)
         [BOTSKHELA_NOT_LISTED] = "month not listed",
         [BOTSKHELA_TALLY_FULL] = "tally full",
         [BOTSKHELA_LEFT_NOT_SMALLER] = "left not smaller",
+        [BOTSKHELA_UNKNOWN_EDITION] = "no such edition",
     };
 
     if (refusal == 0 || refusal >= sizeof names / sizeof names[0])

@@ -2,8 +2,8 @@
 
 history=examples/complex.history
 followed='1 0 24294 12980' # July Soybeans at a price that is above, within and below in turn
-settlement_byte=$((4 * 668)) # of an image: the last settlement of July Corn
-image_bytes=$((4 * 951))
+settlement_byte=$((4 * 669)) # of an image: the last settlement of July Corn
+image_bytes=$((4 * 952))
 
 writer() {
     timeout 60 "$out/writer" "$@"
@@ -225,34 +225,28 @@ bytes_of() {
     tail -c +$(($2 + 1)) "$1" | head -c $(($3 - $2))
 }
 
-# A whole file as the format before had it: its number, and a standing and an event for KC Wheat beside Chicago Wheat's.
-in_six_groups() {
-    local standing=$((4 * 26)) event=$((4 * 942))
-    {
-        printf '\x01\x00\x00\x00'
-        bytes_of "$1" 4 $((standing + 8))
-        bytes_of "$1" $standing $((event + 12))
-        bytes_of "$1" $event $image_bytes
-    } > "$2"
+# A whole file as the format before had it: its number, and no edition behind that.
+without_edition() {
+    { printf '\x02\x00\x00\x00' && bytes_of "$1" 8 $image_bytes; } > "$2"
     # The CRC-32 of its input stands before the length at the end of what gzip makes, its low byte first.
     gzip -c "$2" | tail -c 8 | head -c 4 > "$out/crc" && cat "$out/crc" >> "$2"
 }
 
 # July Corn's settlement by a tick, which leaves a sound book; the CRC; a byte too few and one too many; nothing at all; and
-# a book of six groups, whole in its time.
+# a book with no edition, whole in its time.
 saved_damaged() {
     local name
     for name in settlement crc short long empty; do
         cp "$out/complex.history.image" "$out/$name.image" || return
     done
-    in_six_groups "$out/complex.history.image" "$out/six-groups.image" || return
-    [[ $(wc -c < "$out/six-groups.image") -eq $((4 * 957)) ]] || return
+    without_edition "$out/complex.history.image" "$out/no-edition.image" || return
+    [[ $(wc -c < "$out/no-edition.image") -eq $((4 * 952)) ]] || return
     flip_bit "$out/settlement.image" $settlement_byte
     flip_bit "$out/crc.image" $image_bytes
     truncate -s -1 "$out/short.image"
     truncate -s +1 "$out/long.image"
     truncate -s 0 "$out/empty.image"
-    for name in settlement crc short long empty six-groups; do
+    for name in settlement crc short long empty no-edition; do
         is_refused "$out/$name.image" || { echo "taken for a book: $name"; return 1; }
     done
 }
