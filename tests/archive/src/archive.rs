@@ -1,7 +1,7 @@
 //! The calls of the archive, declared as include/botskhela.h declares them.
 
 use oracle::bare::Order;
-use oracle::history::call::{Call, SheetCall};
+use oracle::history::call::{Call, FoundCall, SheetCall};
 use oracle::image::Image;
 use oracle::tally::Tally;
 use oracle::verdict::SpanWords;
@@ -38,6 +38,7 @@ extern "C" {
     ) -> u32;
     fn botskhela_found(
         book: *mut Image,
+        edition: u32,
         corn: u32,
         soybeans: u32,
         soybean_oil: u32,
@@ -98,7 +99,7 @@ impl Archive {
     /// Where the call is one that never does.
     pub fn call(&mut self, book: &mut Image, call: &Call) -> u32 {
         match call {
-            Call::Found(limits) => found(book, *limits),
+            Call::Found(call) => found(book, *call),
             Call::Open([year, month, day, left]) => {
                 // SAFETY: the book is lent as the header asks; so in each call below.
                 unsafe { botskhela_open(book, *year, *month, *day, *left) }
@@ -130,12 +131,13 @@ pub fn sheet(book: &mut Image, product: u32, months: &[u32], settlements: &[u32]
     }
 }
 
-fn found(book: &mut Image, limits: [u32; 8]) -> u32 {
+fn found(book: &mut Image, call: FoundCall) -> u32 {
     let [corn, soybeans, soybean_oil, soybean_meal, chicago_wheat, kc_wheat, oats, rough_rice] =
-        limits;
+        call.limits;
     unsafe {
         botskhela_found(
             book,
+            call.edition,
             corn,
             soybeans,
             soybean_oil,

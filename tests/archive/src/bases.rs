@@ -32,7 +32,7 @@ const LONGEST_LIFE: usize = 120;
 const SEEDS: u64 = 1_000;
 
 pub fn bases() -> Vec<Base> {
-    let fresh = Book::found(LIMITS).expect("fit limits");
+    let fresh = Book::found(2023, LIMITS).expect("fit limits");
     let first = calendar().place(2024, 11, 1);
     let mut random = Random::new(1);
     let (full, next) = first_of_seeds(|random| live(random, &fresh, first));

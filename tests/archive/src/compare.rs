@@ -106,7 +106,7 @@ impl Comparer {
 
 fn by_oracle(image: &mut Image, call: &Call) -> u32 {
     match call {
-        Call::Found(limits) => image.found(*limits),
+        Call::Found(call) => image.found(call.edition, call.limits),
         Call::Open(numbers) => image.open(*numbers),
         Call::Sheet(sheet) => image.sheet(sheet.product, &sheet.months, &sheet.settlements),
         Call::End => image.end(),

@@ -3,7 +3,7 @@
 use oracle::amounts::LARGEST_FOUNDING;
 use oracle::book::groups::group_of;
 use oracle::book::{Book, PRODUCT_COUNT};
-use oracle::history::call::{Call, SheetCall};
+use oracle::history::call::{Call, FoundCall, SheetCall};
 use oracle::tally::Tally;
 use oracle::testing::history::calendar::calendar;
 use oracle::testing::history::{false_openings, faults, pace, stray, temper};
@@ -13,7 +13,7 @@ use oracle::testing::random::Random;
 pub fn changes(random: &mut Random, book: &Book) -> [Call; 5] {
     [
         founding(random),
-        Call::Found(stray::unfit_limits(random)),
+        stray::false_founding(random),
         opening(random, book),
         sheet(random, book),
         Call::End,
@@ -25,7 +25,10 @@ fn founding(random: &mut Random) -> Call {
     if random.one_in(4) {
         limits[random.below(PRODUCT_COUNT)] = LARGEST_FOUNDING;
     }
-    Call::Found(limits)
+    Call::Found(FoundCall {
+        edition: 2023,
+        limits,
+    })
 }
 
 fn opening(random: &mut Random, book: &Book) -> Call {

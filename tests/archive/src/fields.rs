@@ -9,6 +9,7 @@ use oracle::image::{words, Image, SheetWords, BOOK_WORDS, WORDS};
 #[derive(Clone, Copy, Debug, PartialEq, Eq)]
 pub enum Field {
     Format,
+    Edition,
     IsOpen,
     Year,
     Month,
@@ -36,7 +37,7 @@ pub enum Sheets {
     Last,
 }
 
-const LIMITS: usize = words(offset_of!(Image, limits));
+pub const LIMITS: usize = words(offset_of!(Image, limits));
 const STANDINGS: usize = words(offset_of!(Image, standings));
 const COUNTS: usize = words(offset_of!(Image, windows.counts));
 pub const SETTLEMENTS: usize = words(offset_of!(Image, windows.settlements));
@@ -52,11 +53,12 @@ impl Field {
     pub fn of(word: usize) -> Field {
         match word {
             0 => Field::Format,
-            1 => Field::IsOpen,
-            2 => Field::Year,
-            3 => Field::Month,
-            4 => Field::Day,
-            5 => Field::Left,
+            1 => Field::Edition,
+            2 => Field::IsOpen,
+            3 => Field::Year,
+            4 => Field::Month,
+            5 => Field::Day,
+            6 => Field::Left,
             LIMITS..STANDINGS => either(word - LIMITS, Field::Initial, Field::Expanded),
             STANDINGS..COUNTS => either(word - STANDINGS, Field::IsExpanded, Field::IsMarked),
             COUNTS..SETTLEMENTS => Field::WindowCount(word - COUNTS),
@@ -124,6 +126,7 @@ mod tests {
         };
         match field {
             Field::Format => image.format,
+            Field::Edition => image.edition,
             Field::IsOpen => image.is_open,
             Field::Year => image.year,
             Field::Month => image.month,

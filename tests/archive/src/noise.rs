@@ -1,5 +1,6 @@
 //! Images of random bytes: through and through, or in a part of a good one.
 
+use oracle::book::edition::EDITIONS;
 use oracle::book::Book;
 use oracle::image::{Image, Words, FORMAT, WORDS};
 use oracle::testing::random::Random;
@@ -48,6 +49,7 @@ fn with_flags(random: &mut Random) -> Words {
 fn plausible_words(random: &mut Random) -> Words {
     std::array::from_fn(|word| match Field::of(word) {
         Field::Format => FORMAT,
+        Field::Edition => random.pick(&EDITIONS),
         Field::IsOpen | Field::IsExpanded(_) | Field::Renewed(_) => random.below(2) as u32,
         Field::IsMarked(_) => 0,
         Field::Year => random.between(2000, 2098),

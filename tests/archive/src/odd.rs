@@ -46,6 +46,7 @@ fn book(random: &mut Random) -> Book {
 /// Any limits, standings and windows.
 fn dateless(random: &mut Random) -> Book {
     Book {
+        edition: 2023,
         is_open: false,
         date: None,
         left: 0,

@@ -7,6 +7,7 @@ use oracle::testing::score::Score;
 use crate::bases::{self, Base};
 use crate::compare::Comparer;
 use crate::draw::{order, sound_tally, tally_of};
+use crate::fields::LIMITS;
 use crate::reached::{Range, Reached, CHECK, UNSOUND};
 use crate::values::wrong_values;
 
@@ -85,7 +86,7 @@ fn checks(
         let base = bases::draw(random, bases);
         let mut image = base.image;
         if random.one_in(6) {
-            let word = random.below(6);
+            let word = random.below(LIMITS);
             image.words_mut()[word] = random.pick(&wrong_values(&base.image, word));
         }
         let order = order(random, &base.book);

@@ -12,6 +12,8 @@ pub struct Product {
     pub first: usize,
     /// The calendar months, 1 to 12, for which contracts are listed.
     pub months: &'static [u32],
+    /// The one among them that ends the crop year.
+    pub last_crop_month: u32,
     pub standard_tick: u32,
     /// None where no mini is offered.
     pub mini_tick: Option<u32>,
@@ -22,14 +24,20 @@ const BEAN_MONTHS: &[u32] = &[1, 3, 5, 7, 8, 9, 11];
 const OIL_AND_MEAL_MONTHS: &[u32] = &[1, 3, 5, 7, 8, 9, 10, 12];
 const RICE_MONTHS: &[u32] = &[1, 3, 5, 7, 9, 11];
 
-/// Corn, Chicago Wheat, KC Wheat and Oats differ in their floor and their mini alone.
-const fn grain(name: &'static str, floor: u32, mini_tick: Option<u32>) -> Product {
+/// Corn, Chicago Wheat, KC Wheat and Oats differ in their floor, their crop year and their mini alone.
+const fn grain(
+    name: &'static str,
+    floor: u32,
+    last_crop_month: u32,
+    mini_tick: Option<u32>,
+) -> Product {
     Product {
         name,
         step: 40,
         floor,
         first: 5,
         months: GRAIN_MONTHS,
+        last_crop_month,
         standard_tick: 2,
         mini_tick,
     }
@@ -43,6 +51,7 @@ const fn oil_or_meal(name: &'static str) -> Product {
         floor: 200,
         first: 8,
         months: OIL_AND_MEAL_MONTHS,
+        last_crop_month: 9,
         standard_tick: 1,
         mini_tick: None,
     }
@@ -54,6 +63,7 @@ const SOYBEANS: Product = Product {
     floor: 400,
     first: 7,
     months: BEAN_MONTHS,
+    last_crop_month: 8,
     standard_tick: 2,
     mini_tick: Some(1),
 };
@@ -64,19 +74,20 @@ const ROUGH_RICE: Product = Product {
     floor: 100,
     first: 6,
     months: RICE_MONTHS,
+    last_crop_month: 7,
     standard_tick: 1,
     mini_tick: None,
 };
 
 /// The rows, by product number.
 pub static PRODUCTS: [Product; 8] = [
-    grain("Corn", 160, Some(1)),
+    grain("Corn", 160, 9, Some(1)),
     SOYBEANS,
     oil_or_meal("Soybean Oil"),
     oil_or_meal("Soybean Meal"),
-    grain("Chicago Wheat", 240, Some(1)),
-    grain("KC Wheat", 240, None),
-    grain("Oats", 160, None),
+    grain("Chicago Wheat", 240, 5, Some(1)),
+    grain("KC Wheat", 240, 5, None),
+    grain("Oats", 160, 5, None),
     ROUGH_RICE,
 ];
 
@@ -97,8 +108,18 @@ impl Product {
 
     /// Whether contracts of this month, counted year × 12 + month − 1, are traded.
     pub fn trades(&self, contract_month: u32) -> bool {
-        self.months.contains(&(contract_month % 12 + 1))
+        self.months.contains(&calendar_month(contract_month))
     }
+
+    /// Whether a contract's month is the last of a crop year.
+    pub fn ends_crop_year(&self, contract_month: u32) -> bool {
+        calendar_month(contract_month) == self.last_crop_month
+    }
+}
+
+/// 1 to 12, of a month that is counted year × 12 + month − 1.
+pub fn calendar_month(contract_month: u32) -> u32 {
+    contract_month % 12 + 1
 }
 
 #[cfg(test)]
@@ -131,6 +152,17 @@ mod tests {
         assert!(!corn.trades(4_294_967_295));
         assert!(corn.trades(2024 * 12 + 11));
         assert!(!corn.trades(2024 * 12 + 10));
+    }
+
+    #[test]
+    fn a_crop_year_ends_in_one_of_the_months() {
+        let last = PRODUCTS.each_ref().map(|row| row.last_crop_month);
+        assert_eq!(last, [9, 8, 9, 9, 5, 5, 5, 7]);
+        for row in &PRODUCTS {
+            let months = (2024 * 12..2025 * 12).filter(|&month| row.ends_crop_year(month));
+            assert_eq!(months.count(), 1, "{}", row.name);
+            assert!(row.months.contains(&row.last_crop_month), "{}", row.name);
+        }
     }
 
     #[test]

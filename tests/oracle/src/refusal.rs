@@ -32,6 +32,8 @@ pub enum Refusal {
     NotListed = 14,
     /// Left is not smaller than at the previous opening of that month.
     NotSmaller = 16,
+    /// There is no such edition.
+    Edition = 17,
 }
 
 impl Refusal {

@@ -15,6 +15,7 @@ pub const MEAL: usize = 3;
 pub const CHICAGO_WHEAT: usize = 4;
 pub const KC_WHEAT: usize = 5;
 pub const OATS: usize = 6;
+pub const RICE: usize = 7;
 
 /// July 2024, the first contract of each sheet.
 pub const JULY: u32 = 2024 * 12 + 6;
@@ -51,9 +52,14 @@ pub struct Trial {
     pub settlements: Vec<Vec<u32>>,
 }
 
-/// A book on its second day, with two sheets in.
+/// A 2023 book on its second day, with two sheets in.
 pub fn open_book() -> Book {
-    let mut trial = Trial::new(LIMITS);
+    open_book_under(2023)
+}
+
+/// The same by an edition.
+pub fn open_book_under(edition: u32) -> Book {
+    let mut trial = Trial::under(edition, LIMITS);
     trial.open();
     trial.file(0);
     trial.file(7);
@@ -68,16 +74,21 @@ pub fn contracts(product: usize, from: u32, count: usize) -> Vec<u32> {
 
 /// The contract at a place of a product's sheet.
 pub fn contract(product: usize, place: usize) -> Contract {
-    let month = contracts(product, JULY, 10)[place];
+    let month = contracts(product, JULY, place + 1)[place];
     Contract { month, product }
 }
 
 impl Trial {
-    /// The book after one ended day on which ten contracts of each product settled.
+    /// A 2023 book after one ended day on which ten contracts of each product settled.
     pub fn new(limits: [u32; 8]) -> Trial {
+        Trial::under(2023, limits)
+    }
+
+    /// The same by an edition.
+    pub fn under(edition: u32, limits: [u32; 8]) -> Trial {
         let months: Vec<Vec<u32>> = (0..8).map(|product| contracts(product, JULY, 10)).collect();
         let mut trial = Trial {
-            book: Book::found(limits).expect("fit limits"),
+            book: Book::found(edition, limits).expect("fit limits"),
             next_day: 3,
             settlements: vec![vec![FIRST_SETTLEMENT; 10]; 8],
             months,

@@ -12,7 +12,7 @@ pub fn outcome(standing: Standing, moves: &[Move]) -> Outcome {
 }
 
 fn at_initial(moves: &[Move]) -> Outcome {
-    match leading(moves, |one| one.is_first() && one.is_by_initial()) {
+    match leading(moves, Move::can_trigger) {
         Some(contract) => (Event::Triggered(contract), false),
         None => (Event::Quiet, false),
     }

@@ -1,7 +1,9 @@
 //! The end of a day: each group's event, its level, mark and limits, and the new last sheets.
 
+use super::edition::Edition;
 use super::moves::{Contract, Move};
-use super::{edition_2023, Book, Level, Limits, Standing, GROUPS, GROUP_COUNT};
+use super::{edition_2014, edition_2023};
+use super::{Book, Level, Limits, Standing, GROUPS, GROUP_COUNT};
 use crate::refusal::Refusal;
 
 /// What a day made of a group; the contract is the leading one.
@@ -27,8 +29,14 @@ impl Book {
         if self.sheets_in.iter().any(Option::is_none) {
             return Err(Refusal::Outstanding);
         }
-        let outcomes: [Outcome; GROUP_COUNT] =
-            std::array::from_fn(|group| self.outcome(group, &self.moves(group, date, left)));
+        let edition = Edition::of(self.edition).ok_or(Refusal::Unsound)?;
+        let outcomes: [Outcome; GROUP_COUNT] = std::array::from_fn(|group| {
+            outcome(
+                edition,
+                self.standings[group],
+                &self.moves(group, date, left),
+            )
+        });
         for (group, outcome) in outcomes.iter().enumerate() {
             self.settle_group(group, *outcome);
         }
@@ -36,10 +44,6 @@ impl Book {
         self.last_ended = std::mem::take(&mut self.sheets_in);
         self.is_open = false;
         Ok(outcomes.map(|(event, _)| event))
-    }
-
-    fn outcome(&self, group: usize, moves: &[Move]) -> Outcome {
-        edition_2023::outcome(self.standings[group], moves)
     }
 
     /// Level, mark and limits of a group after its event.
@@ -55,5 +59,12 @@ impl Book {
                 self.limits[product] = Limits::from_initial(product, raised);
             }
         }
+    }
+}
+
+fn outcome(edition: Edition, standing: Standing, moves: &[Move]) -> Outcome {
+    match edition {
+        Edition::Of2014 => (edition_2014::event(standing.level, moves), false),
+        Edition::Of2023 => edition_2023::outcome(standing, moves),
     }
 }

@@ -1,6 +1,8 @@
 //! The daily price limit book: founding, opening, sheet, end and check.
 
 pub mod check;
+pub mod edition;
+pub mod edition_2014;
 pub mod edition_2023;
 pub mod end;
 pub mod found;
@@ -13,6 +15,8 @@ pub mod window;
 
 #[cfg(test)]
 pub mod by_hand;
+#[cfg(test)]
+mod edition_2014_tests;
 #[cfg(test)]
 mod end_tests;
 #[cfg(test)]
@@ -67,6 +71,8 @@ pub struct Limits {
 /// Every field can hold damage, so that soundness is a question.
 #[derive(Clone, Debug, PartialEq, Eq)]
 pub struct Book {
+    /// The year of the edition by which the book was founded.
+    pub edition: u32,
     pub is_open: bool,
     /// Year, month and day of the last opened day.
     pub date: Option<[u32; 3]>,

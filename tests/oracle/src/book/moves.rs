@@ -23,9 +23,14 @@ pub struct Move {
 }
 
 impl Move {
-    /// Whether it is among the first N of its product, which can trigger.
+    /// Whether it is among the first N of its product.
     pub fn is_first(&self) -> bool {
         self.place < PRODUCTS[self.contract.product].first
+    }
+
+    /// Whether its month is the last of a crop year.
+    pub fn ends_crop_year(&self) -> bool {
+        PRODUCTS[self.contract.product].ends_crop_year(self.contract.month)
     }
 
     pub fn is_by_initial(&self) -> bool {
@@ -34,6 +39,11 @@ impl Move {
 
     pub fn is_by_expanded(&self) -> bool {
         self.size == self.limits.expanded
+    }
+
+    /// Whether it triggers, alone or, by the edition of 2014, with another.
+    pub fn can_trigger(&self) -> bool {
+        self.is_first() && self.is_by_initial()
     }
 }
 

@@ -88,7 +88,7 @@ mod tests {
     use super::*;
 
     fn fresh() -> Book {
-        Book::found(LIMITS).expect("fit limits")
+        Book::found(2023, LIMITS).expect("fit limits")
     }
 
     /// A book whose last day was this one, with so many business days left.

@@ -194,7 +194,7 @@ fn a_listed_month_that_has_passed_is_14() {
 
 #[test]
 fn on_the_first_day_every_month_is_14() {
-    let mut book = Book::found(LIMITS).expect("fit limits");
+    let mut book = Book::found(2023, LIMITS).expect("fit limits");
     book.open(2024, 6, 27, 1).expect("an opening");
     assert_eq!(book.check(0, 0, JULY, 6_000), Err(Refusal::NotListed));
 }

@@ -1,5 +1,6 @@
 //! Soundness: every field in the ranges of the rule, tested at every call.
 
+use super::edition::Edition;
 use super::sheet::is_sheet;
 use super::window::LARGEST_WINDOW;
 use super::{Book, Level, Limits, PRODUCT_COUNT};
@@ -10,7 +11,7 @@ use crate::products::PRODUCTS;
 impl Book {
     pub fn is_sound(&self) -> bool {
         self.has_sound_date()
-            && self.has_sound_marks()
+            && self.has_sound_edition_and_marks()
             && (0..PRODUCT_COUNT).all(|product| self.has_sound_limits(product))
             && (0..PRODUCT_COUNT).all(|product| self.has_sound_window(product))
             && self.has_sound_sheets()
@@ -29,10 +30,14 @@ impl Book {
         self.last_ended.iter().any(Option::is_some)
     }
 
-    /// A mark is on an expanded group only.
-    fn has_sound_marks(&self) -> bool {
+    /// A true edition, and a mark only by one that has them, on an expanded group.
+    fn has_sound_edition_and_marks(&self) -> bool {
+        let Some(edition) = Edition::of(self.edition) else {
+            return false;
+        };
+        let can_be_marked = |level| edition.has_marks() && level == Level::Expanded;
         let mut standings = self.standings.iter();
-        standings.all(|standing| !standing.marked || standing.level == Level::Expanded)
+        standings.all(|standing| !standing.marked || can_be_marked(standing.level))
     }
 
     /// I fits, and E is what belongs to it.

@@ -1,9 +1,10 @@
 //! Damage to each field, found by every call; and books that look odd but are sound.
 
-use super::by_hand::{contracts, open_book, JULY, LIMITS};
+use super::by_hand::{contracts, open_book, open_book_under, EXPANDED, JULY, LIMITS, MARKED};
+use super::edition::EDITIONS;
 use super::groups::group_of;
 use super::sheet::entries;
-use super::{Book, Entry, Level, Limits, Standing};
+use super::{Book, Entry, Limits};
 use crate::refusal::Refusal;
 
 type Damage = (&'static str, fn(&mut Book));
@@ -49,7 +50,7 @@ fn damaged_days() {
             ("sheets in on a closed day", |book| book.is_open = false),
         ],
     );
-    let fresh = Book::found(LIMITS).expect("fit limits");
+    let fresh = Book::found(2023, LIMITS).expect("fit limits");
     assert_unsound(
         &fresh,
         &[
@@ -80,6 +81,41 @@ fn damaged_limits_and_marks() {
             }),
         ],
     );
+}
+
+#[test]
+fn damaged_editions() {
+    for edition in EDITIONS {
+        assert_unsound(
+            &open_book_under(edition),
+            &[
+                ("edition 0", |book| book.edition = 0),
+                ("edition 2013", |book| book.edition = 2013),
+                ("edition 2015", |book| book.edition = 2015),
+                ("edition 2022", |book| book.edition = 2022),
+                ("edition 2024", |book| book.edition = 2024),
+                ("the largest", |book| book.edition = u32::MAX),
+            ],
+        );
+    }
+}
+
+#[test]
+fn marks_of_2014() {
+    let mut marked = open_book();
+    marked.standings[group_of(7)] = MARKED;
+    assert!(marked.is_sound());
+    assert_unsound(&marked, &[("2014", |book| book.edition = 2014)]);
+    let all: [Damage; 3] = [
+        ("the first group", |book| book.standings[0] = MARKED),
+        ("the last group", |book| {
+            book.standings[group_of(7)] = MARKED
+        }),
+        ("at the initial level", |book| {
+            book.standings[0].marked = true
+        }),
+    ];
+    assert_unsound(&open_book_under(2014), &all);
 }
 
 #[test]
@@ -137,20 +173,22 @@ fn damaged_entries_of_sheets() {
 
 #[test]
 fn odd_but_sound() {
-    let sound: [Damage; 7] = [
+    let sound: [Damage; 9] = [
         ("windows without a date", |book| {
-            *book = Book::found(LIMITS).expect("fit limits");
+            *book = Book::found(2023, LIMITS).expect("fit limits");
             book.windows[0] = vec![2; 45];
         }),
         ("marked without sheets", |book| {
-            *book = Book::found(LIMITS).expect("fit limits");
-            book.standings[0] = Standing {
-                level: Level::Expanded,
-                marked: true,
-            };
+            *book = Book::found(2023, LIMITS).expect("fit limits");
+            book.standings[0] = MARKED;
         }),
+        ("expanded by 2014", |book| {
+            book.edition = 2014;
+            book.standings[0] = EXPANDED;
+        }),
+        ("the other edition", |book| book.edition = 2014),
         ("a date without sheets", |book| {
-            *book = Book::found(LIMITS).expect("fit limits");
+            *book = Book::found(2023, LIMITS).expect("fit limits");
             book.date = Some([2098, 12, 31]);
         }),
         ("a change beyond the limit", |book| {

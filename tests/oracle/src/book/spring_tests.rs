@@ -89,7 +89,7 @@ impl Spring {
 /// Every day to the end of April; every group comes to it expanded, and all but Rice marked.
 fn april_ended() -> Spring {
     let mut spring = Spring {
-        book: Book::found(LIMITS).expect("fit limits"),
+        book: Book::found(2023, LIMITS).expect("fit limits"),
         later: [6_000; 8],
     };
     let days = std::iter::successors(Date::new(2024, 2, 1), |day| day.next());

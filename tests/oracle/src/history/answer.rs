@@ -28,7 +28,7 @@ pub fn answer_line(book: &mut Option<Book>, line: &[u8]) -> Option<String> {
 /// Answers a call on a book, if one was founded.
 pub fn answer(book: &mut Option<Book>, call: &Call) -> String {
     let outcome = match (call, book.as_mut()) {
-        (Call::Found(limits), _) => Book::found(*limits).map(|founded| {
+        (Call::Found(call), _) => Book::found(call.edition, call.limits).map(|founded| {
             *book = Some(founded);
             FOUNDED.to_string()
         }),

@@ -2,8 +2,7 @@
 
 #[derive(Clone, Debug, PartialEq, Eq)]
 pub enum Call {
-    /// Eight initial limits.
-    Found([u32; 8]),
+    Found(FoundCall),
     /// Year, month, day and left.
     Open([u32; 4]),
     Sheet(SheetCall),
@@ -13,6 +12,13 @@ pub enum Call {
     /// Product, size, settlement, amount, spot and price.
     Bare([u32; 6]),
     Book,
+}
+
+#[derive(Clone, Copy, Debug, PartialEq, Eq)]
+pub struct FoundCall {
+    pub edition: u32,
+    /// The initial limits.
+    pub limits: [u32; 8],
 }
 
 #[derive(Clone, Debug, PartialEq, Eq)]
@@ -33,7 +39,7 @@ pub fn parse(line: &[u8]) -> Option<Call> {
     let name = words.next()?;
     let arguments: Vec<&[u8]> = words.collect();
     match name {
-        b"found" => Some(Call::Found(numbers(&arguments)?)),
+        b"found" => Some(Call::Found(found(&arguments)?)),
         b"open" => Some(Call::Open(numbers(&arguments)?)),
         b"sheet" => Some(Call::Sheet(sheet(&arguments)?)),
         b"end" => arguments.is_empty().then_some(Call::End),
@@ -68,6 +74,12 @@ fn number(word: &[u8]) -> Option<u32> {
     Some(value)
 }
 
+/// The words after `found`: EDITION I0 .. I7.
+fn found(words: &[&[u8]]) -> Option<FoundCall> {
+    let [edition, limits @ ..] = numbers::<9>(words)?;
+    Some(FoundCall { edition, limits })
+}
+
 /// The words after `sheet`: PRODUCT months m1 .. mk settlements s1 .. sj.
 fn sheet(words: &[&[u8]]) -> Option<SheetCall> {
     let (product, words) = words.split_first()?;
@@ -95,8 +107,11 @@ mod tests {
     #[test]
     fn every_call() {
         assert_eq!(
-            parse(b"found 1 2 3 4 5 6 7 8"),
-            Some(Call::Found([1, 2, 3, 4, 5, 6, 7, 8]))
+            parse(b"found 2014 1 2 3 4 5 6 7 8"),
+            Some(Call::Found(FoundCall {
+                edition: 2014,
+                limits: [1, 2, 3, 4, 5, 6, 7, 8]
+            }))
         );
         assert_eq!(
             parse(b"open 2024 6 27 1"),
@@ -171,6 +186,9 @@ mod tests {
             "open 2024 6 27 1 ",
             "open 2024 6 27 4294967296",
             "found",
+            "found 1 2 3 4 5 6 7 8",
+            "found 2023 1 2 3 4 5 6 7 8 9",
+            "found 4294967296 1 2 3 4 5 6 7 8",
             "check 0 0 1",
             "bare 0 0 1 1 0",
             "sheet",

@@ -17,9 +17,10 @@ pub fn book(book: &Book) -> String {
     );
     let sheets_in = joined(";", book.sheets_in.iter().map(sheet));
     let last = joined(";", book.last_ended.iter().map(sheet));
+    let edition = book.edition;
     format!(
         "book open={open} date={date} left={left} level={level} mark={mark} I={initial} \
-         E={expanded} windows={windows} in={sheets_in} last={last}"
+         E={expanded} windows={windows} in={sheets_in} last={last} edition={edition}"
     )
 }
 

@@ -12,6 +12,7 @@ use crate::verdict::SpanWords;
 #[allow(clippy::too_many_arguments)]
 pub unsafe extern "C" fn oracle_found(
     book: *mut Image,
+    edition: u32,
     corn: u32,
     soybeans: u32,
     soybean_oil: u32,
@@ -31,7 +32,7 @@ pub unsafe extern "C" fn oracle_found(
         oats,
         rough_rice,
     ];
-    unsafe { (*book).found(limits) }
+    unsafe { (*book).found(edition, limits) }
 }
 
 /// # Safety

@@ -11,8 +11,8 @@ pub const ACCEPTED: u32 = 0;
 
 impl Image {
     /// Looks at nothing that the image held before.
-    pub fn found(&mut self, limits: [u32; PRODUCT_COUNT]) -> u32 {
-        number(Book::found(limits).map(|book| *self = Image::of(&book)))
+    pub fn found(&mut self, edition: u32, limits: [u32; PRODUCT_COUNT]) -> u32 {
+        number(Book::found(edition, limits).map(|book| *self = Image::of(&book)))
     }
 
     pub fn open(&mut self, [year, month, day, left]: [u32; 4]) -> u32 {

@@ -15,7 +15,7 @@ use crate::book::window::LARGEST_WINDOW;
 use crate::book::{GROUP_COUNT, PRODUCT_COUNT};
 
 /// The format of the images that hold a book.
-pub const FORMAT: u32 = 2;
+pub const FORMAT: u32 = 3;
 
 /// How many words an image has.
 pub const WORDS: usize = words(size_of::<Image>());
@@ -75,6 +75,7 @@ pub struct EventWords {
 #[repr(C)]
 pub struct Image {
     pub format: u32,
+    pub edition: u32,
     pub is_open: u32,
     pub year: u32,
     pub month: u32,

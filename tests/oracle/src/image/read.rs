@@ -14,6 +14,7 @@ impl Image {
         }
         let standings = self.standings.each_ref().map(StandingWords::standing);
         Some(Book {
+            edition: self.edition,
             is_open: flag(self.is_open)?,
             date: self.date(),
             left: self.left,

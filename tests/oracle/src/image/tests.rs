@@ -1,10 +1,11 @@
 //! The layout by the header's words, images there and back, and what each call leaves in one.
 
 use super::*;
-use crate::book::by_hand::{open_book, Trial, JULY, LIMITS};
-use crate::book::{Book, Level, Standing};
+use crate::book::by_hand::{open_book, open_book_under, Trial, EXPANDED, JULY, LIMITS, MARKED};
+use crate::book::edition::EDITIONS;
+use crate::book::Book;
 use crate::tally::Tally;
-use crate::testing::old_image::{in_six_groups, OLD_FORMAT};
+use crate::testing::old_image::OLD_FORMATS;
 
 /// Words that no call may write, since no call answers them.
 const KEPT: [u32; 8] = [7, 0, 1, 2, 3, 4, 5, u32::MAX];
@@ -37,20 +38,21 @@ fn span(image: &Image, order: [u32; 4]) -> [u32; 3] {
 fn fields_lie_where_the_header_says() {
     let offsets = [
         (offset_of!(Image, format), 0),
-        (offset_of!(Image, is_open), 1),
-        (offset_of!(Image, year), 2),
-        (offset_of!(Image, month), 3),
-        (offset_of!(Image, day), 4),
-        (offset_of!(Image, left), 5),
-        (offset_of!(Image, limits), 6),
-        (offset_of!(Image, standings), 22),
-        (offset_of!(Image, windows.counts), 32),
-        (offset_of!(Image, windows.settlements), 40),
-        (offset_of!(Image, today), 400),
-        (offset_of!(Image, last), 664),
-        (offset_of!(Image, renewed), 928),
-        (offset_of!(Image, events), 936),
-        (size_of::<Image>(), 951),
+        (offset_of!(Image, edition), 1),
+        (offset_of!(Image, is_open), 2),
+        (offset_of!(Image, year), 3),
+        (offset_of!(Image, month), 4),
+        (offset_of!(Image, day), 5),
+        (offset_of!(Image, left), 6),
+        (offset_of!(Image, limits), 7),
+        (offset_of!(Image, standings), 23),
+        (offset_of!(Image, windows.counts), 33),
+        (offset_of!(Image, windows.settlements), 41),
+        (offset_of!(Image, today), 401),
+        (offset_of!(Image, last), 665),
+        (offset_of!(Image, renewed), 929),
+        (offset_of!(Image, events), 937),
+        (size_of::<Image>(), 952),
     ];
     for (offset, word) in offsets {
         assert_eq!(offset, 4 * word);
@@ -59,7 +61,7 @@ fn fields_lie_where_the_header_says() {
 
 #[test]
 fn a_book_is_read_as_it_was_written() {
-    for book in books() {
+    for book in EDITIONS.into_iter().flat_map(books) {
         assert_eq!(Image::of(&book).book(), Some(book));
     }
 }
@@ -68,8 +70,8 @@ fn a_book_is_read_as_it_was_written() {
 fn another_format_or_flag_holds_no_book() {
     assert_unsound(&Image::from_words([0; WORDS]), "zeros");
     assert_unsound(&Image::from_words([1; WORDS]), "ones");
-    assert_unsound(&Image::from_words([2; WORDS]), "twos");
-    for word in [0, 1, 3, 1 << 24, u32::MAX] {
+    assert_unsound(&Image::from_words([FORMAT; WORDS]), "threes");
+    for word in [0, 1, 2, 4, 1 << 24, u32::MAX] {
         let image = damaged(|image| image.format = word);
         assert_eq!(image.book(), None, "format {word}");
         assert_unsound(&image, "format");
@@ -88,28 +90,96 @@ fn another_format_or_flag_holds_no_book() {
 }
 
 /// A fresh book, one after an end, one with some sheets in and one with all.
-fn books() -> [Book; 4] {
-    let mut trial = Trial::new(LIMITS);
+fn books(edition: u32) -> [Book; 4] {
+    let mut trial = Trial::under(edition, LIMITS);
     let ended = trial.book.clone();
     trial.open();
     (0..8).for_each(|product| trial.file(product));
-    let fresh = Book::found(LIMITS).expect("fit limits");
-    [fresh, ended, open_book(), trial.book]
+    let fresh = Book::found(edition, LIMITS).expect("fit limits");
+    [fresh, ended, open_book_under(edition), trial.book]
+}
+
+/// Every book as an image of today's format, and laid out by each of the old ones.
+fn laid_out() -> impl Iterator<Item = (u32, Image, Image)> {
+    let images = EDITIONS
+        .into_iter()
+        .flat_map(books)
+        .map(|book| Image::of(&book));
+    images.flat_map(|image| {
+        OLD_FORMATS.map(|format| {
+            let words = format.lay_out(&image);
+            let held = *words.first_chunk().expect("there is room for an image");
+            (format.number, image, Image::from_words(held))
+        })
+    })
 }
 
 #[test]
-fn an_image_of_format_1_is_refused_whatever_else_it_holds() {
-    for book in books() {
-        let image = Image::of(&book);
-        let mut renumbered = image;
-        renumbered.format = OLD_FORMAT;
-        let words = in_six_groups(&image);
-        let held = *words.first_chunk().expect("format 1 had more words");
-        for old in [renumbered, Image::from_words(held)] {
+fn an_image_of_an_old_format_is_refused_whatever_else_it_holds() {
+    for (format, image, old) in laid_out() {
+        let renumbered = Image { format, ..image };
+        for old in [renumbered, old] {
             assert_eq!(old.book(), None);
-            assert_unsound(&old, "format 1");
+            assert_unsound(&old, "an old format");
             assert_founds_afresh(old);
         }
+    }
+}
+
+/// Where the edition lies now, an image said whether a day is open.
+#[test]
+fn an_old_image_with_todays_format_is_of_no_edition() {
+    for (_, image, old) in laid_out() {
+        let renumbered = Image {
+            format: FORMAT,
+            ..old
+        };
+        assert_eq!(renumbered.edition, image.is_open);
+        assert_unsound(&renumbered, "an old image");
+    }
+}
+
+#[test]
+fn an_image_has_an_edition_and_2014_no_mark() {
+    for edition in [0, 1, 3, 2013, 2015, 2022, 2024, 2014 << 16, u32::MAX] {
+        let image = damaged(|image| image.edition = edition);
+        assert!(image.book().is_some_and(|book| book.edition == edition));
+        assert_unsound(&image, "neither edition");
+    }
+    for (edition, standing, is_sound) in [
+        (2023, MARKED, true),
+        (2023, EXPANDED, true),
+        (2014, MARKED, false),
+        (2014, EXPANDED, true),
+    ] {
+        let image = damaged(|image| {
+            image.edition = edition;
+            image.standings[2].expanded = 1;
+            image.standings[2].marked = u32::from(standing.marked);
+        });
+        let book = image.book().expect("flags and format are true");
+        assert_eq!((book.is_sound(), book.standings[2]), (is_sound, standing));
+        if !is_sound {
+            assert_unsound(&image, "2014 with a mark");
+        }
+    }
+}
+
+/// One Corn contract at I, which triggers by the edition of 2023 alone.
+#[test]
+fn an_image_follows_the_rule_of_the_edition_in_it() {
+    let mut trial = Trial::under(2014, LIMITS);
+    trial.open();
+    trial.settlements[0][0] += 200;
+    (0..8).for_each(|product| trial.file(product));
+    for (edition, kind) in [(2014, 0), (2023, 1)] {
+        let mut image = Image::of(&trial.book);
+        image.edition = edition;
+        assert_eq!((image.end(), image.edition), (0, edition));
+        assert_eq!(
+            (image.events[0].kind, image.standings[0].expanded),
+            (kind, kind)
+        );
     }
 }
 
@@ -122,10 +192,14 @@ fn assert_founds_afresh(old: Image) {
     assert_eq!(span(&after, [0, 0, JULY, 6_000]), [1, 0, 0]);
     assert_eq!(after.tallied_check(&mut tally, [0, 0, JULY, 6_000]), 1);
     assert_eq!((tally.asked, tally.refused), (1, 1));
-    assert_eq!(after.found([1; 8]), 13);
+    assert_eq!(after.found(2, [1; 8]), 17);
+    assert_eq!(after.found(2023, [1; 8]), 13);
     assert_eq!(after, old);
-    assert_eq!(after.found(LIMITS), 0);
-    assert_eq!(after, Image::of(&Book::found(LIMITS).expect("fit limits")));
+    assert_eq!(after.found(2014, LIMITS), 0);
+    assert_eq!(
+        after,
+        Image::of(&Book::found(2014, LIMITS).expect("fit limits"))
+    );
 }
 
 #[test]
@@ -146,7 +220,7 @@ fn counts_beyond_their_places_are_unsound() {
 
 #[test]
 fn a_date_is_none_where_all_its_words_are_0() {
-    let mut fresh = Image::of(&Book::found(LIMITS).expect("fit limits"));
+    let mut fresh = Image::of(&Book::found(2023, LIMITS).expect("fit limits"));
     assert_eq!(fresh.book().and_then(|book| book.date), None);
     fresh.day = 1;
     assert_unsound(&fresh, "a day alone");
@@ -171,10 +245,14 @@ fn places_from_a_count_on_mean_nothing() {
 fn a_founding_looks_at_nothing_and_leaves_zeros() {
     let mut image = Image::from_words([u32::MAX; WORDS]);
     let before = image;
-    assert_eq!(image.found([1; 8]), 13);
+    assert_eq!(image.found(2023, [1; 8]), 13);
+    assert_eq!(image.found(2015, LIMITS), 17);
     assert_eq!(image, before);
-    assert_eq!(image.found(LIMITS), 0);
-    assert_eq!(image, Image::of(&Book::found(LIMITS).expect("fit limits")));
+    assert_eq!(image.found(2023, LIMITS), 0);
+    assert_eq!(
+        image,
+        Image::of(&Book::found(2023, LIMITS).expect("fit limits"))
+    );
     assert_eq!(
         (image.renewed, image.new_limits()),
         ([0; 8], Some([false; 8]))
@@ -200,10 +278,7 @@ fn an_opening_sets_renewed_alone() {
 #[test]
 fn an_end_sets_events_alone_and_moves_the_sheets() {
     let mut trial = Trial::new(LIMITS);
-    trial.book.standings[0] = Standing {
-        level: Level::Expanded,
-        marked: true,
-    };
+    trial.book.standings[0] = MARKED;
     trial.open();
     trial.settlements[0][9] += 320;
     trial.settlements[2][1] += 200;

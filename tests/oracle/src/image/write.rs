@@ -25,6 +25,7 @@ impl Image {
         let [year, month, day] = book.date.unwrap_or_default();
         *self = Image {
             format: FORMAT,
+            edition: book.edition,
             is_open: u32::from(book.is_open),
             year,
             month,

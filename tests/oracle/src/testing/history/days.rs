@@ -8,7 +8,7 @@ use super::text;
 use crate::book::Book;
 use crate::dates::Date;
 use crate::history::answer;
-use crate::history::call::Call;
+use crate::history::call::{Call, FoundCall};
 use crate::products::PRODUCTS;
 use crate::testing::random::Random;
 use crate::verdict::Span;
@@ -40,7 +40,10 @@ pub fn days(checks: usize, count: usize) -> Vec<u8> {
         text: Vec::new(),
         book: None,
     };
-    course.call(Call::Found(LIMITS));
+    course.call(Call::Found(FoundCall {
+        edition: 2023,
+        limits: LIMITS,
+    }));
     for &date in calendar().days.iter().take(count) {
         course.day(date, checks);
     }

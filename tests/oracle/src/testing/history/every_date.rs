@@ -6,7 +6,7 @@ use super::compare::lines;
 use super::text;
 use crate::dates::days_in_month;
 use crate::history::answer::FOUNDED;
-use crate::history::call::Call;
+use crate::history::call::{Call, FoundCall};
 use crate::products::PRODUCTS;
 
 /// The calendar, and a year beyond each of its ends.
@@ -28,7 +28,10 @@ const REFUSED: &str = "refused 3";
 /// Three openings of each date, each after a founding: six lines a date.
 pub fn history() -> Vec<u8> {
     let floors = PRODUCTS.each_ref().map(|product| product.floor);
-    let founding = text::line(&Call::Found(floors));
+    let founding = text::line(&Call::Found(FoundCall {
+        edition: 2023,
+        limits: floors,
+    }));
     let mut history = String::new();
     for [year, month, day] in dates() {
         let remaining = days_remaining(year, month, day);

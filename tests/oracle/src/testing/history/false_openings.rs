@@ -79,7 +79,7 @@ mod tests {
     #[test]
     fn every_one_is_refused() {
         let mut random = Random::new(4);
-        let fresh = Book::found(LIMITS).expect("fit limits");
+        let fresh = Book::found(2023, LIMITS).expect("fit limits");
         for date in calendar().days.iter().step_by(3) {
             let mut book = fresh.clone();
             let [year, month, day] = [date.year(), date.month(), date.day()];

@@ -55,7 +55,7 @@ fn noise(random: &mut Random) -> Vec<u8> {
 fn words(random: &mut Random) -> Vec<u8> {
     let mut text = String::new();
     if random.one_in(2) {
-        text.push_str("found 200 400 200 200 240 240 160 100\nopen 2024 6 27 1\n");
+        text.push_str("found 2023 200 400 200 200 240 240 160 100\nopen 2024 6 27 1\n");
     }
     for _ in 0..random.below(150) {
         text.push_str(random.pick(&WORDS));

@@ -75,14 +75,14 @@ impl Scenario {
             self.call(calls[call].clone());
             let bare = stray::bare(&mut self.random);
             self.call(bare);
-            let limits = stray::unfit_limits(&mut self.random);
-            self.call(Call::Found(limits));
+            let call = stray::false_founding(&mut self.random);
+            self.call(call);
         }
         self.found();
     }
 
     fn found(&mut self) {
-        self.call(Call::Found(self.temper.limits));
+        self.call(self.temper.founding());
         if self.random.one_in(4) {
             self.call(Call::Book);
         }
@@ -251,8 +251,8 @@ impl Scenario {
     fn stray_anytime(&mut self) {
         match self.random.below(6) {
             0 => {
-                let limits = stray::unfit_limits(&mut self.random);
-                self.call(Call::Found(limits));
+                let call = stray::false_founding(&mut self.random);
+                self.call(call);
             }
             1 | 2 => {
                 let call = stray::bare(&mut self.random);

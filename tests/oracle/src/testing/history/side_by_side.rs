@@ -185,7 +185,7 @@ impl Side {
     }
 
     fn found(&mut self) {
-        self.call(&Call::Found(self.temper.limits));
+        self.call(&self.temper.founding());
     }
 
     fn call(&mut self, call: &Call) {
@@ -248,7 +248,7 @@ impl Side {
             Call::End,
             Call::Check(stray::order(&mut self.random, book)),
             false_openings::draw(&mut self.random, book, opening),
-            Call::Found(stray::unfit_limits(&mut self.random)),
+            stray::false_founding(&mut self.random),
         ];
         for call in calls {
             if self.random.one_in(4) {

@@ -4,7 +4,7 @@ use super::market::at_an_edge;
 use crate::amounts::LARGEST_LIMIT;
 use crate::book::Book;
 use crate::history::answer;
-use crate::history::call::{Call, SheetCall};
+use crate::history::call::{Call, FoundCall, SheetCall};
 use crate::prices::LARGEST_PRICE;
 use crate::products::{Product, PRODUCTS};
 use crate::testing::random::Random;
@@ -19,8 +19,16 @@ pub fn fit_limits(random: &mut Random) -> [u32; 8] {
     })
 }
 
+/// A founding with unfit limits.
+pub fn false_founding(random: &mut Random) -> Call {
+    Call::Found(FoundCall {
+        edition: 2023,
+        limits: unfit_limits(random),
+    })
+}
+
 /// Limits of which one or more are unfit.
-pub fn unfit_limits(random: &mut Random) -> [u32; 8] {
+fn unfit_limits(random: &mut Random) -> [u32; 8] {
     let mut limits = fit_limits(random);
     for _ in 0..random.between(1, 2) {
         let product = random.below(8);
@@ -164,7 +172,7 @@ pub fn lively_product(random: &mut Random, book: &Book) -> usize {
     products.find(is_lively).unwrap_or(drawn)
 }
 
-const NO_CALLS: [&str; 40] = [
+const NO_CALLS: [&str; 43] = [
     " ",
     "  ",
     " end",
@@ -189,8 +197,11 @@ const NO_CALLS: [&str; 40] = [
     "open 2024 6 27 1.0",
     "open 2024-6-27 1",
     "found",
-    "found 200 400 200 200 240 240 160",
-    "found 200 400 200 200 240 240 160 100 100",
+    "found 200 400 200 200 240 240 160 100",
+    "found 2023 200 400 200 200 240 240 160",
+    "found 2023 200 400 200 200 240 240 160 100 100",
+    "found -2023 200 400 200 200 240 240 160 100",
+    "found 4294967296 200 400 200 200 240 240 160 100",
     "sheet",
     "sheet 0",
     "sheet 0 months",

@@ -8,10 +8,12 @@ use super::stray;
 use crate::book::groups::{group_of, COUPLED, GROUPS};
 use crate::book::sheet::LARGEST_SHEET;
 use crate::book::window::LARGEST_WINDOW;
+use crate::history::call::{Call, FoundCall};
 use crate::products::PRODUCTS;
 use crate::testing::random::Random;
 
 pub struct Temper {
+    pub edition: u32,
     pub limits: [u32; 8],
     pub market: Market,
     pub pace: Pace,
@@ -21,6 +23,15 @@ pub struct Temper {
     pub quiet: usize,
     /// Business days left need not be those of the calendar.
     pub has_strange_left: bool,
+}
+
+impl Temper {
+    pub fn founding(&self) -> Call {
+        Call::Found(FoundCall {
+            edition: self.edition,
+            limits: self.limits,
+        })
+    }
 }
 
 /// How many tempers take turns.
@@ -44,6 +55,7 @@ pub fn draw(random: &mut Random, seed: u64) -> Temper {
 fn common(random: &mut Random) -> Temper {
     let last = calendar().last();
     Temper {
+        edition: 2023,
         limits: stray::fit_limits(random),
         market: market(random),
         pace: Pace::Uneven,

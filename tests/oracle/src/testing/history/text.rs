@@ -14,7 +14,7 @@ pub fn line_with(call: &Call, mut number: impl FnMut(u32) -> String) -> String {
         number: &mut number,
     };
     match call {
-        Call::Found(limits) => words.call("found", limits),
+        Call::Found(call) => words.call("found", &[&[call.edition], &call.limits[..]].concat()),
         Call::Open(numbers) => words.call("open", numbers),
         Call::Sheet(sheet) => {
             words.call("sheet", &[sheet.product]);
@@ -53,7 +53,7 @@ mod tests {
     #[test]
     fn lines_are_read_as_they_were_written() {
         let lines = [
-            "found 1 2 3 4 5 6 7 8",
+            "found 2014 1 2 3 4 5 6 7 8",
             "open 2024 6 27 1",
             "sheet 0 months 24294 24296 settlements 6000",
             "sheet 0 months settlements",

@@ -61,6 +61,7 @@ fn book_part(group: usize, answer: &str) -> Option<String> {
         let items: Vec<&str> = field(name)?.split(between).collect();
         parts.push(of_products(group, &items)?.join(";"));
     }
+    parts.push(field("edition")?.to_string());
     Some(parts.join(" "))
 }
 
@@ -71,17 +72,17 @@ mod tests {
     const BOOK: &str = "book open=1 date=2024-6-27 left=1 level=01000 mark=00001 \
                         I=1,2,3,4,5,6,7,8 E=11,12,13,14,15,16,17,18 \
                         windows=[6000,6002];[];[7];[];[];[];[];[9] in=[24294:6000];-;-;-;-;-;-;- \
-                        last=-;-;-;-;-;-;-;[1:2,3:4]";
+                        last=-;-;-;-;-;-;-;[1:2,3:4] edition=2014";
 
     #[test]
     fn the_part_of_each_group() {
-        let corn = "1 2024-6-27 1 0 0 1 11 [6000,6002] [24294:6000] -";
+        let corn = "1 2024-6-27 1 0 0 1 11 [6000,6002] [24294:6000] - 2014";
         assert_eq!(part(Kind::Book, 0, BOOK).as_deref(), Some(corn));
-        let complex = "1 2024-6-27 1 1 0 2;3;4 12;13;14 [];[7];[] -;-;- -;-;-";
+        let complex = "1 2024-6-27 1 1 0 2;3;4 12;13;14 [];[7];[] -;-;- -;-;- 2014";
         assert_eq!(part(Kind::Book, 1, BOOK).as_deref(), Some(complex));
-        let wheats = "1 2024-6-27 1 0 0 5;6 15;16 [];[] -;- -;-";
+        let wheats = "1 2024-6-27 1 0 0 5;6 15;16 [];[] -;- -;- 2014";
         assert_eq!(part(Kind::Book, 2, BOOK).as_deref(), Some(wheats));
-        let rice = "1 2024-6-27 1 0 1 8 18 [9] - [1:2,3:4]";
+        let rice = "1 2024-6-27 1 0 1 8 18 [9] - [1:2,3:4] 2014";
         assert_eq!(part(Kind::Book, 4, BOOK).as_deref(), Some(rice));
         assert_eq!(
             part(Kind::Opened, 1, "opened 0 1 0 1 0 0 0 0").as_deref(),
