@@ -3,8 +3,7 @@
 use std::cmp::Ordering;
 
 use super::compare::lines;
-use super::side_by_side::{pair, Pair, PAIRS_A_GROUP};
-use super::stray;
+use super::side_by_side::{pairs, Pair};
 use crate::book::{Book, GROUPS, PRODUCT_COUNT};
 use crate::history::answer;
 use crate::history::call::{self, Call, SheetCall};
@@ -33,10 +32,9 @@ fn parted(pair: &Pair, product: usize) -> Option<[[u32; PRODUCT_COUNT]; 2]> {
     for line in lines(&pair.sides[0].text) {
         let call = call::parse(line).expect("every line is a call");
         // Calmed, a refused sheet could be filed.
-        if stray::is_refused(&moved, &call) {
+        if answer::answer(&mut moved, &call).starts_with("refused") {
             continue;
         }
-        answer::answer(&mut moved, &call);
         let is_end = call == Call::End;
         let call = match (call, &calm) {
             (Call::Sheet(sheet), Some(book)) if sheet.product as usize == product => {
@@ -56,9 +54,8 @@ fn parted(pair: &Pair, product: usize) -> Option<[[u32; PRODUCT_COUNT]; 2]> {
 #[test]
 fn a_product_that_moves_widens_its_group_and_no_other() {
     for (group, products) in GROUPS.iter().enumerate() {
-        let pairs: Vec<Pair> = (0..PAIRS_A_GROUP).map(|seed| pair(group, seed)).collect();
         for &product in *products {
-            let parted = pairs.iter().filter_map(|pair| parted(pair, product));
+            let parted = pairs(group).iter().filter_map(|pair| parted(pair, product));
             let parted: Vec<[[u32; PRODUCT_COUNT]; 2]> = parted.collect();
             assert!(parted.len() >= SEVERAL, "product {product}");
             for [moved, calm] in parted {

@@ -1,9 +1,10 @@
 //! Garbage and mutated histories, each small.
 
 use super::scenario;
+use crate::book::edition::EDITIONS;
 use crate::testing::random::Random;
 
-const WORDS: [&str; 26] = [
+const WORDS: [&str; 28] = [
     "found",
     "open",
     "sheet",
@@ -21,6 +22,8 @@ const WORDS: [&str; 26] = [
     "6000",
     "200",
     "24294",
+    "2014",
+    "2023",
     "2024",
     "6",
     "27",
@@ -55,7 +58,9 @@ fn noise(random: &mut Random) -> Vec<u8> {
 fn words(random: &mut Random) -> Vec<u8> {
     let mut text = String::new();
     if random.one_in(2) {
-        text.push_str("found 2023 200 400 200 200 240 240 160 100\nopen 2024 6 27 1\n");
+        let edition = random.pick(&EDITIONS);
+        let limits = "200 400 200 200 240 240 160 100";
+        text.push_str(&format!("found {edition} {limits}\nopen 2024 6 27 1\n"));
     }
     for _ in 0..random.below(150) {
         text.push_str(random.pick(&WORDS));

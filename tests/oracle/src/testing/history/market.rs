@@ -1,8 +1,10 @@
 //! Where contracts settle on a day.
 
 use super::listing::{self, Custom};
-use super::moods::{self, Background, Mood, Size, Which};
+use super::moods::{self, Background, Feature, Mood, Size, Which};
 use super::pace::Phase;
+use super::plots::Plot;
+use crate::book::edition::Edition;
 use crate::book::groups::group_of;
 use crate::book::{Book, Limits, GROUPS, GROUP_COUNT};
 use crate::dates::is_spot;
@@ -32,6 +34,7 @@ struct Line {
     is_spot: bool,
     /// Among the non-spot contracts of the sheet.
     place: usize,
+    is_singled_out: bool,
 }
 
 impl Market {
@@ -53,9 +56,13 @@ impl Market {
         for line in &mut lines {
             line.settlement = self.settlement(random, book, line, background);
         }
-        if let Some((which, size)) = feature {
-            let times = random.pick(&[1, 1, 2, 4]);
-            (0..times).for_each(|_| self.single_out(random, book, &mut lines, which, size));
+        match feature {
+            Feature::Nothing => {}
+            Feature::Scattered(which, size) => {
+                let times = random.pick(&[1, 1, 2, 4]);
+                (0..times).for_each(|_| self.single_out(random, book, &mut lines, (which, size)));
+            }
+            Feature::Plotted(plot) => self.act_out(random, book, &mut lines, plot),
         }
         let products = GROUPS[group].iter();
         products.map(|&product| sheet(product, &lines)).collect()
@@ -75,21 +82,23 @@ impl Market {
             last: book.last_settlement(product, month),
             is_spot: is_spot(month, date, left),
             place: index.saturating_sub(spot),
+            is_singled_out: false,
         };
         months.iter().enumerate().map(line).collect()
     }
 
     fn mood(&self, random: &mut Random, book: &Book, group: usize) -> Mood {
+        let edition = Edition::of(book.edition).expect("the book is sound");
         let level = book.standings[group].level;
-        if let Some(mood) = moods::led(random, self.phase, level) {
+        if let Some(mood) = moods::led(random, self.phase, edition, level) {
             return mood;
         }
         if !random.one_in(self.calm) {
             return moods::CALM;
         }
         match self.is_driven(group) && !random.one_in(5) {
-            true => moods::on(level),
-            false => moods::any(random, level),
+            true => moods::on(random, edition, level),
+            false => moods::any(random, edition, level),
         }
     }
 
@@ -122,17 +131,34 @@ impl Market {
         moved(random, last, size, tick).unwrap_or(last)
     }
 
+    /// Singles out lines of one product of a group, the driver if it has one, and of the others.
+    fn act_out(&self, random: &mut Random, book: &Book, lines: &mut [Line], plot: Plot) {
+        let group = group_of(lines[0].product);
+        let own = match self.driver {
+            Some(driver) if self.is_driven(group) => driver,
+            _ => random.pick(GROUPS[group]),
+        };
+        for product_lines in lines.chunk_by_mut(|one, next| one.product == next.product) {
+            let picks = match product_lines[0].product == own {
+                true => plot.own,
+                false => plot.others,
+            };
+            for &pick in picks {
+                self.single_out(random, book, product_lines, pick);
+            }
+        }
+    }
+
     /// Moves one of the lines that can be singled out by the size of the mood.
     fn single_out(
         &self,
         random: &mut Random,
         book: &Book,
         lines: &mut [Line],
-        which: Which,
-        size: Size,
+        (which, size): (Which, Size),
     ) {
-        let fit =
-            |line: &&mut Line| !line.is_spot && line.last.is_some() && self.is_meant(line, which);
+        let can_be = |line: &Line| !line.is_spot && line.last.is_some() && !line.is_singled_out;
+        let fit = |line: &&mut Line| can_be(line) && self.is_meant(line, which);
         let mut choices: Vec<&mut Line> = lines.iter_mut().filter(fit).collect();
         if choices.is_empty() {
             return;
@@ -146,6 +172,7 @@ impl Market {
         let last = line.last.expect("the line has a change");
         if let Some(settlement) = moved(random, last, amount, tick) {
             line.settlement = settlement;
+            line.is_singled_out = true;
         }
     }
 
@@ -153,11 +180,18 @@ impl Market {
         if self.is_driven(group_of(line.product)) && self.driver != Some(line.product) {
             return false;
         }
-        let is_first = line.place < PRODUCTS[line.product].first;
+        let row = &PRODUCTS[line.product];
+        let is_first = line.place < row.first;
+        let ends_crop_year = row.ends_crop_year(line.month);
         match which {
             Which::Any => true,
             Which::InFirst => is_first,
             Which::PastFirst => !is_first,
+            Which::LastOfFirst => line.place + 1 == row.first,
+            Which::NextPastFirst => line.place == row.first,
+            Which::CropMonth => is_first && ends_crop_year,
+            Which::OtherMonth => is_first && !ends_crop_year,
+            Which::CropMonthPastFirst => !is_first && ends_crop_year,
         }
     }
 }

@@ -13,6 +13,7 @@ pub mod listing;
 pub mod market;
 pub mod moods;
 pub mod pace;
+pub mod plots;
 pub mod scenario;
 pub mod sent_again;
 pub mod side_by_side;

@@ -8,13 +8,14 @@ use super::temper::{self, Temper};
 use super::text;
 use super::view::{self, Kind};
 use super::{false_openings, faults, stray};
+use crate::book::edition::EDITIONS;
 use crate::book::{Book, GROUPS, GROUP_COUNT};
 use crate::history::answer;
 use crate::history::call::{Call, SheetCall};
 use crate::testing::random::Random;
 
-/// Each temper twice.
-pub const PAIRS_A_GROUP: u64 = 2 * temper::TURNS;
+/// Each temper twice by each edition.
+pub const PAIRS_A_GROUP: u64 = 4 * temper::TURNS;
 
 /// Of so many pairs one is led into a season that gives its group new limits, and another into a season that gives them
 /// to other groups on one side alone; few draws reach either.
@@ -35,6 +36,8 @@ pub struct Side {
 
 pub struct Pair {
     pub group: usize,
+    /// By which both sides are founded.
+    pub edition: u32,
     pub sides: [Side; 2],
 }
 
@@ -50,6 +53,9 @@ pub fn pair(group: usize, seed: u64) -> Pair {
     let mut random = Random::new(seed ^ (group as u64) << 32 ^ 0x51DE);
     let mut sides = [0, 1].map(|side| Side::new(&mut random, seed, side));
     let [first, second] = &mut sides;
+    let edition = EDITIONS[(seed / temper::TURNS % 2) as usize];
+    first.temper.edition = edition;
+    second.temper.edition = edition;
     for &product in GROUPS[group] {
         second.temper.limits[product] = first.temper.limits[product];
     }
@@ -62,7 +68,11 @@ pub fn pair(group: usize, seed: u64) -> Pair {
         _ => {}
     }
     sides.iter_mut().for_each(Side::found);
-    let mut pair = Pair { group, sides };
+    let mut pair = Pair {
+        group,
+        edition,
+        sides,
+    };
     pair.live(&mut random);
     pair
 }
@@ -277,6 +287,14 @@ impl Side {
     }
 }
 
+/// All pairs of a group, which are drawn once for all tests.
+#[cfg(test)]
+pub fn pairs(group: usize) -> &'static [Pair] {
+    use std::sync::OnceLock;
+    static PAIRS: [OnceLock<Vec<Pair>>; GROUP_COUNT] = [const { OnceLock::new() }; GROUP_COUNT];
+    PAIRS[group].get_or_init(|| (0..PAIRS_A_GROUP).map(|seed| pair(group, seed)).collect())
+}
+
 #[cfg(test)]
 mod tests {
     use super::*;
@@ -288,8 +306,7 @@ mod tests {
     #[test]
     fn this_implementation_keeps_groups_apart() {
         for group in 0..GROUP_COUNT {
-            for seed in 0..temper::TURNS {
-                let pair = pair(group, seed);
+            for pair in pairs(group) {
                 let outputs = pair.sides.each_ref().map(|side| answers(&side.text));
                 assert_ne!(outputs[0], outputs[1]);
                 assert_eq!(pair.difference([&outputs[0], &outputs[1]]), None);
@@ -302,12 +319,12 @@ mod tests {
     /// In so many pairs of each group a thing is reached, so that no single draw decides whether it is.
     const SEVERAL: usize = 3;
 
-    const WANTED: [(Kind, &str); 9] = [
+    /// By either edition.
+    const WANTED: [(Kind, &str); 8] = [
         (Kind::Ended, "quiet"),
         (Kind::Ended, "triggered"),
         (Kind::Ended, "held"),
         (Kind::Ended, "reverted"),
-        (Kind::Ended, "raised"),
         (Kind::Check, "free"),
         (Kind::Check, "within"),
         (Kind::Check, "below"),
@@ -335,34 +352,65 @@ mod tests {
         parts(pair).into_iter().map(word_of).collect()
     }
 
-    /// Whether a product led an event of the group.
-    fn is_led_by(pair: &Pair, product: usize) -> bool {
-        let lead = format!(":{product}");
-        let mut parts = parts(pair).into_iter();
-        parts.any(|(kind, part)| kind == Kind::Ended && part.ends_with(&lead))
+    /// The products that led an event of the group.
+    fn leads(pair: &Pair) -> Vec<usize> {
+        let ended = parts(pair)
+            .into_iter()
+            .filter(|(kind, _)| *kind == Kind::Ended);
+        let lead = |(_, part): (Kind, String)| part.rsplit_once(':')?.1.parse().ok();
+        ended.filter_map(lead).collect()
     }
 
     #[test]
     fn several_pairs_of_each_coupled_group_are_led_by_each_of_its_products() {
         for group in COUPLED {
-            let pairs: Vec<Pair> = (0..PAIRS_A_GROUP).map(|seed| pair(group, seed)).collect();
+            let leads: Vec<Vec<usize>> = pairs(group).iter().map(leads).collect();
             for &product in GROUPS[group] {
-                let times = pairs.iter().filter(|pair| is_led_by(pair, product)).count();
+                let times = leads
+                    .iter()
+                    .filter(|leads| leads.contains(&product))
+                    .count();
                 assert!(times >= SEVERAL, "product {product}: {times}");
             }
         }
     }
 
+    const RAISED: (Kind, &str) = (Kind::Ended, "raised");
+
+    fn assert_reached(group: usize, year: u32, wanted: &[(Kind, &str)]) {
+        let is_by_year = |pair: &&Pair| pair.edition == year;
+        let pairs = pairs(group).iter().filter(is_by_year).map(reached);
+        let pairs: Vec<Vec<(Kind, String)>> = pairs.collect();
+        for (kind, word) in wanted {
+            let wanted = (*kind, word.to_string());
+            let times = pairs.iter().filter(|pair| pair.contains(&wanted)).count();
+            assert!(
+                times >= SEVERAL,
+                "group {group}, {year}: {wanted:?} in {times}"
+            );
+        }
+    }
+
     #[test]
-    fn several_pairs_of_each_group_reach_each_event_verdict_and_season() {
+    fn several_pairs_of_each_group_and_edition_reach_each_event_verdict_and_season() {
         for (group, products) in GROUPS.iter().enumerate() {
-            let pairs = (0..PAIRS_A_GROUP).map(|seed| reached(&pair(group, seed)));
-            let pairs: Vec<Vec<(Kind, String)>> = pairs.collect();
             let all_renewed = vec!["1"; products.len()].join(" ");
-            for (kind, word) in WANTED.into_iter().chain([(Kind::Opened, &*all_renewed)]) {
-                let wanted = (kind, word.to_string());
-                let times = pairs.iter().filter(|pair| pair.contains(&wanted)).count();
-                assert!(times >= SEVERAL, "group {group}: {wanted:?} in {times}");
+            let of_both = [&WANTED[..], &[(Kind::Opened, &*all_renewed)]].concat();
+            assert_reached(group, 2014, &of_both);
+            assert_reached(group, 2023, &[&of_both[..], &[RAISED]].concat());
+        }
+    }
+
+    #[test]
+    fn both_sides_are_founded_by_the_pairs_edition() {
+        for Pair { edition, sides, .. } in pairs(0) {
+            let founding = format!("found {edition} ");
+            let ending = format!(" edition={edition}");
+            for side in sides {
+                assert!(side.text.starts_with(founding.as_bytes()));
+                let answers = String::from_utf8(answers(&side.text)).expect("answers are text");
+                let mut books = answers.lines().filter(|line| line.starts_with("book "));
+                assert!(books.all(|line| line.ends_with(&ending)));
             }
         }
     }
@@ -417,7 +465,7 @@ mod tests {
     }
 
     fn assert_several(group: usize, is_wanted: impl Fn(&Opened, &Opened) -> bool) {
-        let pairs = (0..PAIRS_A_GROUP).map(|seed| pair(group, seed));
+        let pairs = pairs(group).iter();
         let times = pairs.filter(|pair| has_opening(pair, &is_wanted)).count();
         assert!(times >= SEVERAL, "group {group}: {times}");
     }
@@ -454,19 +502,18 @@ mod tests {
     #[test]
     fn several_pairs_of_each_group_have_a_stale_left_on_one_side_alone() {
         for group in 0..GROUP_COUNT {
-            let pairs = (0..PAIRS_A_GROUP).map(|seed| pair(group, seed));
-            let is_on_one = |pair: &Pair| {
+            let is_on_one = |pair: &&Pair| {
                 let [first, second] = pair.sides.each_ref().map(stale_openings);
                 first != second
             };
-            let times = pairs.filter(is_on_one).count();
+            let times = pairs(group).iter().filter(is_on_one).count();
             assert!(times >= SEVERAL, "group {group}: {times}");
         }
     }
 
     #[test]
     fn a_difference_in_the_group_is_seen() {
-        let pair = pair(0, 3);
+        let pair = &pairs(0)[3];
         let outputs = pair.sides.each_ref().map(|side| answers(&side.text));
         let text = String::from_utf8(outputs[1].clone()).expect("answers are text");
         let other = text.replacen(" level=0", " level=1", 1);

@@ -2,6 +2,7 @@
 
 use super::market::at_an_edge;
 use crate::amounts::LARGEST_LIMIT;
+use crate::book::edition::EDITIONS;
 use crate::book::Book;
 use crate::history::answer;
 use crate::history::call::{Call, FoundCall, SheetCall};
@@ -19,12 +20,21 @@ pub fn fit_limits(random: &mut Random) -> [u32; 8] {
     })
 }
 
-/// A founding with unfit limits.
+/// Numbers that are no edition, on either side of each that is.
+pub const FALSE_EDITIONS: [u32; 6] = [0, 2013, 2015, 2022, 2024, u32::MAX];
+
+/// A founding by an unknown edition, with unfit limits, or both.
 pub fn false_founding(random: &mut Random) -> Call {
-    Call::Found(FoundCall {
-        edition: 2023,
-        limits: unfit_limits(random),
-    })
+    let fit = fit_limits(random);
+    let unfit = unfit_limits(random);
+    let edition = random.pick(&EDITIONS);
+    let false_edition = random.pick(&FALSE_EDITIONS);
+    let (edition, limits) = random.pick(&[
+        (edition, unfit),
+        (false_edition, fit),
+        (false_edition, unfit),
+    ]);
+    Call::Found(FoundCall { edition, limits })
 }
 
 /// Limits of which one or more are unfit.

@@ -5,6 +5,7 @@ use super::listing::{Collected, Custom};
 use super::market::Market;
 use super::pace::{Pace, Phase};
 use super::stray;
+use crate::book::edition::EDITIONS;
 use crate::book::groups::{group_of, COUPLED, GROUPS};
 use crate::book::sheet::LARGEST_SHEET;
 use crate::book::window::LARGEST_WINDOW;
@@ -55,7 +56,7 @@ pub fn draw(random: &mut Random, seed: u64) -> Temper {
 fn common(random: &mut Random) -> Temper {
     let last = calendar().last();
     Temper {
-        edition: 2023,
+        edition: random.pick(&EDITIONS),
         limits: stray::fit_limits(random),
         market: market(random),
         pace: Pace::Uneven,
