@@ -8,7 +8,11 @@ use std::path::{Path, PathBuf};
 use std::process::{Command, ExitCode, Stdio};
 use std::time::Instant;
 
+use oracle::book::edition::EDITIONS;
 use oracle::testing::history::days;
+
+/// Of the books whose calls are measured one kind by one.
+const EDITION: u32 = 2023;
 
 const ROUNDS: usize = 5;
 const CHECKS_A_DAY: usize = 10;
@@ -70,12 +74,14 @@ fn in_turn(program: &Path, oracle: &Path, history: &History) -> io::Result<(f64,
     Ok((median(ours), median(theirs)))
 }
 
-fn compare(program: &Path, oracle: &Path, folder: &Path) -> io::Result<()> {
-    let history = write(folder, "days.history", &[&days::all_days(CHECKS_A_DAY)])?;
+fn compare(program: &Path, oracle: &Path, folder: &Path, edition: u32) -> io::Result<()> {
+    let life = days::all_days(edition, CHECKS_A_DAY);
+    let history = write(folder, "days.history", &[&life])?;
     let (ours, theirs) = in_turn(program, oracle, &history)?;
     let speed = |time: f64| history.calls as f64 / time;
     println!(
-        "{} calls of 36,160 days with ten checks a day, median of {ROUNDS} runs in turn",
+        "{} calls of 36,160 days by the edition of {edition} with ten checks a day, \
+         median of {ROUNDS} runs in turn",
         history.calls
     );
     println!("replay                {:>9.0} calls a second", speed(ours));
@@ -91,7 +97,7 @@ fn compare(program: &Path, oracle: &Path, folder: &Path) -> io::Result<()> {
 fn sections(program: &Path, folder: &Path) -> io::Result<()> {
     let mut before = (0.0, 0);
     for count in SECTIONS {
-        let history = write(folder, "first.history", &[&days::days(0, count)])?;
+        let history = write(folder, "first.history", &[&days::days(EDITION, 0, count)])?;
         let times: io::Result<Vec<f64>> = (0..ROUNDS).map(|_| seconds(program, &history)).collect();
         let time = median(times?);
         let calls = history.calls - before.1;
@@ -106,7 +112,7 @@ fn sections(program: &Path, folder: &Path) -> io::Result<()> {
 
 /// One founding after another, each through all its days.
 fn foundings(program: &Path, folder: &Path) -> io::Result<()> {
-    let life = days::all_days(0);
+    let life = days::all_days(EDITION, 0);
     let one = write(folder, "life.history", &[&life])?;
     let all = write(folder, "lives.history", &vec![life.as_slice(); FOUNDINGS])?;
     let first = seconds(program, &one)? / one.calls as f64;
@@ -122,7 +128,7 @@ fn foundings(program: &Path, folder: &Path) -> io::Result<()> {
 
 /// One check again and again, on a book with full windows.
 fn one_check(program: &Path, folder: &Path) -> io::Result<()> {
-    let life = days::days(CHECKS_A_DAY, 100);
+    let life = days::days(EDITION, CHECKS_A_DAY, 100);
     let text = String::from_utf8_lossy(&life);
     let last_end = text.rfind("end\n").unwrap_or(0);
     let check = text
@@ -155,7 +161,11 @@ fn main() -> ExitCode {
         eprintln!("usage: history_bench PROGRAM ORACLE FOLDER");
         return ExitCode::FAILURE;
     };
-    let done = compare(program, oracle, folder)
+    let mut compared = EDITIONS
+        .into_iter()
+        .map(|edition| compare(program, oracle, folder, edition));
+    let done = compared
+        .try_for_each(|one| one)
         .and_then(|()| sections(program, folder))
         .and_then(|()| foundings(program, folder))
         .and_then(|()| one_check(program, folder));

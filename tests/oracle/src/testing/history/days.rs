@@ -27,13 +27,13 @@ struct Course {
     book: Option<Book>,
 }
 
-/// The history of all 36,160 days, with so many checks a day from the second on.
-pub fn all_days(checks: usize) -> Vec<u8> {
-    days(checks, calendar().days.len())
+/// The history of all 36,160 days by an edition, with so many checks a day from the second on.
+pub fn all_days(edition: u32, checks: usize) -> Vec<u8> {
+    days(edition, checks, calendar().days.len())
 }
 
 /// The history of the first days.
-pub fn days(checks: usize, count: usize) -> Vec<u8> {
+pub fn days(edition: u32, checks: usize, count: usize) -> Vec<u8> {
     let mut course = Course {
         random: Random::new(SEED),
         market: market(),
@@ -41,7 +41,7 @@ pub fn days(checks: usize, count: usize) -> Vec<u8> {
         book: None,
     };
     course.call(Call::Found(FoundCall {
-        edition: 2023,
+        edition,
         limits: LIMITS,
     }));
     for &date in calendar().days.iter().take(count) {
@@ -119,22 +119,26 @@ impl Course {
 #[cfg(test)]
 mod tests {
     use super::*;
+    use crate::book::edition::EDITIONS;
     use crate::history::replay::answers;
 
     #[test]
     fn two_years_are_accepted_and_reach_events() {
-        let answers = String::from_utf8(answers(&days(10, 800))).expect("answers are text");
-        assert!(!answers.contains("refused"));
-        for word in [
-            "opened 1",
-            "triggered",
-            "held",
-            "reverted",
-            "raised",
-            "within",
-            "above",
-        ] {
-            assert!(answers.contains(word), "{word}");
+        for edition in EDITIONS {
+            let history = days(edition, 10, 800);
+            let answers = String::from_utf8(answers(&history)).expect("answers are text");
+            assert!(!answers.contains("refused"));
+            assert_eq!(answers.contains("raised"), edition == 2023);
+            for word in [
+                "opened 1",
+                "triggered",
+                "held",
+                "reverted",
+                "within",
+                "above",
+            ] {
+                assert!(answers.contains(word), "{edition}: {word}");
+            }
         }
     }
 }

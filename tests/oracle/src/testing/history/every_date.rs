@@ -25,13 +25,10 @@ const TRUE_DATES: usize = 99 * 365 + 25;
 const OPENED: &str = "opened 0 0 0 0 0 0 0 0";
 const REFUSED: &str = "refused 3";
 
-/// Three openings of each date, each after a founding: six lines a date.
-pub fn history() -> Vec<u8> {
-    let floors = PRODUCTS.each_ref().map(|product| product.floor);
-    let founding = text::line(&Call::Found(FoundCall {
-        edition: 2023,
-        limits: floors,
-    }));
+/// Three openings of each date, each after a founding by an edition: six lines a date.
+pub fn history(edition: u32) -> Vec<u8> {
+    let limits = PRODUCTS.each_ref().map(|product| product.floor);
+    let founding = text::line(&Call::Found(FoundCall { edition, limits }));
     let mut history = String::new();
     for [year, month, day] in dates() {
         let remaining = days_remaining(year, month, day);
@@ -84,6 +81,7 @@ pub fn miscount(answers: &[u8]) -> Option<String> {
 #[cfg(test)]
 mod tests {
     use super::*;
+    use crate::book::edition::EDITIONS;
     use crate::history::replay::answers;
 
     /// The history's calls, and this implementation's answers, as lines.
@@ -98,7 +96,7 @@ mod tests {
                 let text = std::str::from_utf8(text).expect("histories and answers are text");
                 text.lines().map(String::from).collect()
             };
-            let history = history();
+            let history = history(2023);
             Answered {
                 calls: owned(&history),
                 answers: owned(&answers(&history)),
@@ -186,7 +184,9 @@ mod tests {
 
     #[test]
     fn this_implementation_keeps_the_counts() {
-        assert_eq!(miscount(&answers(&history())), None);
+        for edition in EDITIONS {
+            assert_eq!(miscount(&answers(&history(edition))), None);
+        }
     }
 
     #[test]

@@ -8,16 +8,17 @@ use super::coverage::Coverage;
 use super::sent_again::SentAgain;
 use super::side_by_side::PAIRS_A_GROUP;
 use super::{days, every_date, garbage, scenario, sent_again, side_by_side};
+use crate::book::edition::EDITIONS;
 use crate::book::GROUP_COUNT;
 use crate::history::replay::answers;
 use crate::testing::program::{Delivery, Program};
 
 #[derive(Clone, Debug)]
 pub enum Job {
-    /// Every day from 2000 to 2098.
-    AllDays,
-    /// Every year, month and day from 1999 to 2099, true or false.
-    EveryDate,
+    /// Every day from 2000 to 2098, by an edition.
+    AllDays(u32),
+    /// Every year, month and day from 1999 to 2099, true or false, by an edition.
+    EveryDate(u32),
     /// A generated history, by its seed.
     Generated(u64),
     /// A generated history with orders sent again at the ends of each span.
@@ -81,8 +82,9 @@ pub fn all(examples: Vec<PathBuf>) -> Vec<Job> {
     let pairs = (0..GROUP_COUNT)
         .flat_map(|group| (0..PAIRS_A_GROUP).map(move |seed| Job::SideBySide { group, seed }));
     let drawn = generated.chain(sent_again).chain(pairs).chain(garbage);
-    [Job::AllDays, Job::EveryDate]
-        .into_iter()
+    let long = EDITIONS.map(|edition| [Job::AllDays(edition), Job::EveryDate(edition)]);
+    long.into_iter()
+        .flatten()
         .chain(examples)
         .chain(drawn)
         .collect()
@@ -92,8 +94,8 @@ impl Job {
     /// The kind of job.
     pub fn part(&self) -> &'static str {
         match self {
-            Job::AllDays => ALL_DAYS,
-            Job::EveryDate => EVERY_DATE,
+            Job::AllDays(_) => ALL_DAYS,
+            Job::EveryDate(_) => EVERY_DATE,
             Job::Generated(_) => GENERATED,
             Job::SentAgain(_) => SENT_AGAIN,
             Job::Example(_) => EXAMPLE,
@@ -104,8 +106,8 @@ impl Job {
 
     pub fn name(&self) -> String {
         match self {
-            Job::AllDays => ALL_DAYS.to_string(),
-            Job::EveryDate => EVERY_DATE.to_string(),
+            Job::AllDays(edition) => format!("{ALL_DAYS} by the edition of {edition}"),
+            Job::EveryDate(edition) => format!("{EVERY_DATE} by the edition of {edition}"),
             Job::Generated(seed) | Job::SentAgain(seed) => format!("seed {seed}"),
             Job::Example(path) => format!("{EXAMPLE} {}", path.display()),
             Job::Garbage { first, count } => format!("{count} seeds from {first} on"),
@@ -116,8 +118,8 @@ impl Job {
     /// The histories that the job is about.
     pub fn histories(&self) -> io::Result<Vec<Vec<u8>>> {
         Ok(match self {
-            Job::AllDays => vec![days::all_days(CHECKS_A_DAY)],
-            Job::EveryDate => vec![every_date::history()],
+            Job::AllDays(edition) => vec![days::all_days(*edition, CHECKS_A_DAY)],
+            Job::EveryDate(edition) => vec![every_date::history(*edition)],
             Job::Generated(seed) => vec![scenario::history(*seed).text],
             Job::SentAgain(seed) => {
                 let history = scenario::history(*seed).text;
@@ -136,8 +138,8 @@ impl Job {
 /// Runs a job with a program under test.
 pub fn run(program: &mut Program, job: &Job) -> Outcome {
     match job {
-        Job::AllDays => one(job, all_days(program)),
-        Job::EveryDate => one(job, every_date(program)),
+        Job::AllDays(edition) => one(job, all_days(program, *edition)),
+        Job::EveryDate(edition) => one(job, every_date(program, *edition)),
         Job::Generated(seed) => generated(program, job, *seed),
         Job::SentAgain(seed) => one(job, sent_again(program, *seed)),
         Job::Example(path) => one(job, example(program, path)),
@@ -196,8 +198,8 @@ fn example(program: &mut Program, path: &Path) -> Option<String> {
 }
 
 /// No call of all days is refused, by this implementation or by the program.
-fn all_days(program: &mut Program) -> Option<String> {
-    let history = days::all_days(CHECKS_A_DAY);
+fn all_days(program: &mut Program, edition: u32) -> Option<String> {
+    let history = days::all_days(edition, CHECKS_A_DAY);
     let expected = answers(&history);
     let is_refused = |line: &&[u8]| line.starts_with(b"refused") || line.starts_with(b"no");
     match lines(&expected).iter().find(|line| is_refused(line)) {
@@ -207,8 +209,8 @@ fn all_days(program: &mut Program) -> Option<String> {
 }
 
 /// The expected answers are first held to the calendar, then the program to them.
-fn every_date(program: &mut Program) -> Option<String> {
-    let history = every_date::history();
+fn every_date(program: &mut Program, edition: u32) -> Option<String> {
+    let history = every_date::history(edition);
     let expected = answers(&history);
     every_date::miscount(&expected).or_else(|| compare(program, &history, &expected))
 }
