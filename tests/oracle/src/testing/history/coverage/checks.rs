@@ -11,7 +11,7 @@ use crate::dates::{is_spot, Date};
 use crate::prices::is_price;
 use crate::products::product;
 
-const WANTED: [&str; 43] = [
+const WANTED: [&str; 44] = [
     "check: refused 2",
     "check: refused 5, no such product",
     "check: refused 5, size not offered",
@@ -35,6 +35,7 @@ const WANTED: [&str; 43] = [
     "check: within, initial level",
     "check: within, expanded level",
     "check: within by E but not by I",
+    "check: within by E but not by I by 2014",
     "check: within by E but not by I, kept over a season",
     "check: below in a group brought back, within E",
     "check: above in a group brought back, within E",
@@ -215,6 +216,10 @@ fn observe_limited(coverage: &mut Coverage, numbers: &[u32; 4], seen: &Seen) {
 /// A price that the levels judge differently.
 fn observe_between(coverage: &mut Coverage, book: &Book, number: usize, verdict: &str) {
     coverage.count_if(verdict == "within", "check: within by E but not by I");
+    coverage.count_if(
+        verdict == "within" && book.edition == 2014,
+        "check: within by E but not by I by 2014",
+    );
     if verdict == "within" && is_widened_by_others(coverage, book, number) {
         coverage.count(widened_key(number));
     }

@@ -1,14 +1,21 @@
 //! What groups of several products reached: which of them moved the others, by its own amounts, and which led.
 
-use super::event::Event;
+use super::event::{prefix, Event, Kind};
 use super::{Coverage, Seen};
 use crate::amounts::LARGEST_LIMIT;
+use crate::book::edition::Edition;
 use crate::book::groups::{group_of, COMPLEX, COUPLED, WHEATS};
 use crate::book::moves::Contract;
 use crate::book::{Book, Level, GROUPS, GROUP_COUNT, PRODUCT_COUNT};
 
 /// The events that have a leading contract.
-const LED: [&str; 3] = ["triggered", "held", "raised"];
+const LED: [Kind<'_>; 5] = [
+    (Edition::Of2014, "triggered"),
+    (Edition::Of2014, "held"),
+    (Edition::Of2023, "triggered"),
+    (Edition::Of2023, "held"),
+    (Edition::Of2023, "raised"),
+];
 
 /// What contracts of several products can make of such an event.
 const TOGETHER: [&str; 3] = [
@@ -26,7 +33,7 @@ pub struct LastEnd {
     /// A contract moved by I or more.
     moved: [bool; PRODUCT_COUNT],
     /// A contract moved by exactly E.
-    at_e: [bool; PRODUCT_COUNT],
+    pub at_e: [bool; PRODUCT_COUNT],
 }
 
 pub fn wanted() -> Vec<String> {
@@ -46,7 +53,7 @@ pub fn coupled_products() -> impl Iterator<Item = usize> {
     COUPLED.iter().flat_map(|&group| GROUPS[group]).copied()
 }
 
-fn of_event(group: usize, event: &str) -> Vec<String> {
+fn of_event(group: usize, event: Kind) -> Vec<String> {
     let of_product = |&product: &usize| [alone_key(event, product), lead_key(event, product)];
     let products = GROUPS[group].iter().flat_map(of_product);
     let together = TOGETHER.map(|what| event_key(group, event, what));
@@ -71,11 +78,11 @@ pub fn name(group: usize) -> &'static str {
     }
 }
 
-fn event_key(group: usize, event: &str, what: &str) -> String {
-    format!("end: {} {event}, {what}", name(group))
+fn event_key(group: usize, (edition, event): Kind, what: &str) -> String {
+    format!("{}: {} {event}, {what}", prefix(edition), name(group))
 }
 
-fn alone_key(event: &str, product: usize) -> String {
+fn alone_key(event: Kind, product: usize) -> String {
     event_key(
         group_of(product),
         event,
@@ -83,7 +90,7 @@ fn alone_key(event: &str, product: usize) -> String {
     )
 }
 
-fn lead_key(event: &str, product: usize) -> String {
+fn lead_key(event: Kind, product: usize) -> String {
     event_key(
         group_of(product),
         event,
@@ -116,19 +123,21 @@ pub fn observe(coverage: &mut Coverage, seen: &Seen, event: &Event) {
         return;
     }
     observe_met(coverage, event);
-    observe_raise(coverage, seen, event);
-    observe_own(coverage, seen, event);
+    if event.edition == Edition::Of2023 {
+        observe_raise(coverage, seen, event);
+        observe_own(coverage, seen, event);
+    }
 }
 
 fn observe_met(coverage: &mut Coverage, event: &Event) {
     let Some(lead) = event.lead() else {
         return;
     };
-    coverage.count(lead_key(event.name(), lead.product));
+    coverage.count(lead_key(event.kind(), lead.product));
     let mut others = event.met();
     others.retain(|one| one.product != lead.product);
     if others.is_empty() {
-        return coverage.count(alone_key(event.name(), lead.product));
+        return coverage.count(alone_key(event.kind(), lead.product));
     }
     let is_later_and_lower = |one: &Contract| one.product < lead.product && one.month > lead.month;
     let is_tie = |one: &Contract| one.month == lead.month;
@@ -138,7 +147,7 @@ fn observe_met(coverage: &mut Coverage, event: &Event) {
         others.iter().any(is_tie),
     ];
     for (happened, what) in facts.into_iter().zip(TOGETHER) {
-        coverage.count_if(happened, &event_key(event.group, event.name(), what));
+        coverage.count_if(happened, &event_key(event.group, event.kind(), what));
     }
 }
 

@@ -2,7 +2,8 @@
 
 use super::event::Event;
 use super::seasons::Turn;
-use super::{coupled, Coverage, Seen};
+use super::{coupled, ends_2014, Coverage, Seen};
+use crate::book::edition::Edition;
 use crate::book::moves::Move;
 use crate::book::window::{collected_contract, LARGEST_WINDOW};
 use crate::book::{Book, Level, GROUPS, GROUP_COUNT, PRODUCT_COUNT};
@@ -82,13 +83,21 @@ pub fn observe(coverage: &mut Coverage, seen: &Seen) {
     coverage.count_if(is_first, "end: first day");
     let moves: [Vec<Move>; GROUP_COUNT] =
         std::array::from_fn(|group| seen.before.moves(group, date, left));
+    let edition = Edition::of(seen.before.edition).expect("the day ended");
     let words = seen.answer.split(' ').skip(1).zip(&moves).enumerate();
-    let events = words.map(|(group, (word, moves))| Event { group, word, moves });
+    let events = words.map(|(group, (word, moves))| Event {
+        edition,
+        group,
+        word,
+        moves,
+    });
     let events: Vec<Event> = events.collect();
     for event in &events {
-        observe_event(coverage, seen, event);
+        match edition {
+            Edition::Of2014 => ends_2014::observe(coverage, seen.before, event),
+            Edition::Of2023 => observe_event(coverage, seen, event),
+        }
         observe_turn(coverage, seen, event);
-        observe_edges(coverage, event);
         observe_spot(coverage, seen.before, event, (date, left));
         coupled::observe(coverage, seen, event);
     }
@@ -121,6 +130,7 @@ fn observe_event(coverage: &mut Coverage, seen: &Seen, event: &Event) {
     coverage.count(event_key(event.group, what));
     let is_far = event.lead().is_some_and(|lead| lead.month >= 1 << 31);
     coverage.count_if(is_far, "end: a month of 2^31 or more leads");
+    observe_edges(coverage, event);
 }
 
 /// What the first days after a change of season made of a group.
@@ -187,7 +197,7 @@ fn observe_edges(coverage: &mut Coverage, event: &Event) {
 }
 
 /// How many contracts of the product with a change are nearer.
-fn changed_before(moves: &[Move], one: &Move) -> usize {
+pub fn changed_before(moves: &[Move], one: &Move) -> usize {
     let nearer = |other: &&Move| {
         other.contract.product == one.contract.product && other.contract.month < one.contract.month
     };

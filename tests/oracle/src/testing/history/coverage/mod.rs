@@ -3,7 +3,9 @@
 mod checks;
 mod coupled;
 mod ends;
+mod ends_2014;
 mod event;
+mod foundings;
 mod openings;
 mod seasons;
 mod sheets;
@@ -11,6 +13,7 @@ mod spans;
 
 use std::collections::BTreeMap;
 
+use crate::book::edition::EDITIONS;
 use crate::book::{Book, GROUP_COUNT, PRODUCT_COUNT};
 use crate::history::call::Call;
 use coupled::LastEnd;
@@ -85,7 +88,7 @@ impl Coverage {
         after: Option<&Book>,
     ) {
         match call {
-            Call::Found(_) => return self.observe_found(before.is_some(), answer),
+            Call::Found(call) => return foundings::observe(self, call, before, answer),
             Call::Bare(numbers) => return checks::observe_bare(self, numbers, answer),
             _ => {}
         }
@@ -106,16 +109,8 @@ impl Coverage {
         }
     }
 
-    fn observe_found(&mut self, had_book: bool, answer: &str) {
-        self.count(match (had_book, refusal(answer)) {
-            (false, None) => "found: founded",
-            (true, None) => "found: founded afresh",
-            (false, Some(_)) => "found: refused 13 without a book",
-            (true, Some(_)) => "found: refused 13 with a book",
-        });
-    }
-
     fn observe_book(&mut self, book: &Book) {
+        self.count(book_key(book.edition));
         self.count_if(book.date.is_none(), "book: line before the first opening");
         self.count_if(book.is_open, "book: line on an open day");
         let is_part_in = book.sheets_in.iter().any(Option::is_some);
@@ -135,11 +130,11 @@ impl Coverage {
     }
 }
 
-const OWN: [&str; 17] = [
-    "found: founded",
-    "found: founded afresh",
-    "found: refused 13 without a book",
-    "found: refused 13 with a book",
+fn book_key(edition: u32) -> String {
+    format!("book: line by {edition}")
+}
+
+const OWN: [&str; 13] = [
     "book: line before the first opening",
     "book: line on an open day",
     "book: line with sheets in",
@@ -158,10 +153,13 @@ const OWN: [&str; 17] = [
 /// All that has to be reached.
 pub fn wanted() -> Vec<String> {
     let own = OWN.iter().map(|what| what.to_string());
-    own.chain(openings::wanted())
+    own.chain(EDITIONS.map(book_key))
+        .chain(foundings::wanted())
+        .chain(openings::wanted())
         .chain(seasons::wanted())
         .chain(sheets::wanted())
         .chain(ends::wanted())
+        .chain(ends_2014::wanted())
         .chain(coupled::wanted())
         .chain(checks::wanted())
         .chain(spans::wanted())

@@ -26,7 +26,7 @@ const WANTED: [&str; 14] = [
 ];
 
 /// The standings that a change of season can bring back or keep.
-const CAME: [&str; 2] = ["expanded", "marked"];
+const CAME: [&str; 3] = ["expanded", "marked", "2014's expanded"];
 
 /// Why a group got no new limits.
 const KEPT: [&str; 4] = [
@@ -149,16 +149,9 @@ fn observe_group(coverage: &mut Coverage, seen: &Seen, group: usize, seasons: u3
     let products = GROUPS[group].iter().copied();
     let full: Vec<usize> = products.filter(|&one| is_full(seen.before, one)).collect();
     let is_renewed = seasons == 1 && !full.is_empty();
-    let came = match seen.before.standings[group] {
-        Standing { marked: true, .. } => "marked",
-        Standing {
-            level: Level::Expanded,
-            ..
-        } => "expanded",
-        _ => {
-            coverage.count_if(is_renewed, "season: new limits at the initial level");
-            return Turn::Nothing;
-        }
+    let Some(came) = came(seen.before, group) else {
+        coverage.count_if(is_renewed, "season: new limits at the initial level");
+        return Turn::Nothing;
     };
     if is_renewed {
         coverage.count(back_key(group, came));
@@ -170,6 +163,17 @@ fn observe_group(coverage: &mut Coverage, seen: &Seen, group: usize, seasons: u3
     };
     coverage.count(kept_key(came, why));
     turn
+}
+
+/// How a group that is not at the initial level came into the season.
+fn came(before: &Book, group: usize) -> Option<&'static str> {
+    let Standing { level, marked } = before.standings[group];
+    match (level, marked, before.edition) {
+        (Level::Initial, ..) => None,
+        (_, true, _) => Some("marked"),
+        (_, _, 2014) => Some("2014's expanded"),
+        _ => Some("expanded"),
+    }
 }
 
 /// How a group was kept by its windows, if that has to be reached.

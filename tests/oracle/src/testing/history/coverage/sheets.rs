@@ -12,7 +12,7 @@ use crate::history::call::SheetCall;
 use crate::prices::{is_price, LARGEST_PRICE};
 use crate::products::{product, Product};
 
-const WANTED: [&str; 38] = [
+const WANTED: [&str; 39] = [
     "sheet: refused 2",
     "sheet: refused 5",
     "sheet: refused 11",
@@ -44,6 +44,7 @@ const WANTED: [&str; 38] = [
     "sheet: filed at the limit, up",
     "sheet: filed at the limit, down",
     "sheet: filed at the expanded limit",
+    "sheet: filed at the expanded limit by 2014",
     "sheet: filed with a spot contract beyond the limit",
     "sheet: filed with a contract that enters at the far end",
     "sheet: filed with a contract that enters between others",
@@ -340,9 +341,11 @@ fn observe_moves(coverage: &mut Coverage, call: &SheetCall, book: &Book) {
         let is_up = settlement > last;
         coverage.count_if(size == limit && is_up, "sheet: filed at the limit, up");
         coverage.count_if(size == limit && !is_up, "sheet: filed at the limit, down");
+        let is_at_e = size == limit && is_expanded;
+        coverage.count_if(is_at_e, "sheet: filed at the expanded limit");
         coverage.count_if(
-            size == limit && is_expanded,
-            "sheet: filed at the expanded limit",
+            is_at_e && book.edition == 2014,
+            "sheet: filed at the expanded limit by 2014",
         );
         if size == limit && is_widened_by_others(coverage, book, number) {
             coverage.count(widened_key(number, EDGES[0], is_up));
