@@ -3,6 +3,7 @@
 use std::collections::HashSet;
 use std::mem::{discriminant, Discriminant};
 
+use oracle::book::edition::{Edition, EDITIONS};
 use oracle::book::end::Event;
 use oracle::book::sheet::LARGEST_SHEET;
 use oracle::book::window::LARGEST_WINDOW;
@@ -15,7 +16,7 @@ use oracle::testing::history::pace::Phase;
 use oracle::testing::random::Random;
 
 pub struct Base {
-    pub name: &'static str,
+    pub name: String,
     pub book: Book,
     pub image: Image,
 }
@@ -25,36 +26,62 @@ const LIMITS: [u32; 8] = [200, 600, 250, 200, 240, 240, 160, 100];
 /// About where the products settle, in their own units.
 const PRICES: [u32; 8] = [3_600, 9_600, 4_500, 3_500, 4_480, 4_560, 2_800, 3_400];
 
-/// Windows are full after 45 of them; a group is marked on some day soon after.
+/// Windows are full after 45 of them; groups stand as they should on some day soon after.
 const LONGEST_LIFE: usize = 120;
 
 /// More seeds than any base needs.
 const SEEDS: u64 = 1_000;
 
+/// Six by the edition of 2023, and of the others two by that of 2014; the last five have the most in them.
 pub fn bases() -> Vec<Base> {
-    let fresh = Book::found(2023, LIMITS).expect("fit limits");
-    let first = calendar().place(2024, 11, 1);
+    let [old, new] = EDITIONS.map(Life::by);
     let mut random = Random::new(1);
-    let (full, next) = first_of_seeds(|random| live(random, &fresh, first));
-    let all_in = first_of_seeds(|random| all_in(random, &full, next));
+    let first_day = opened(&new.fresh, first_day());
+    let last_day = opened(&new.full, new.next);
     vec![
-        base("fresh", &fresh),
-        base("first day", &opened(&fresh, first)),
+        base("fresh", &new.fresh),
+        base("first day", &first_day),
         base(
             "first day, all sheets in",
-            &filed(&mut random, &opened(&fresh, first), 8),
+            &filed(&mut random, &first_day, 8),
         ),
-        base("ended, windows full", &full),
-        base(
-            "open, windows full",
-            &filed(&mut random, &opened(&full, next), 3),
-        ),
-        base("open, windows full, all sheets in", &all_in),
+        base("ended, windows full", &new.full),
+        base("open, windows full", &filed(&mut random, &last_day, 3)),
+        base("open, windows full, all sheets in", &new.all_in),
+        base("ended, windows full", &old.full),
+        base("open, windows full, all sheets in", &old.all_in),
     ]
 }
 
+/// A book by an edition, when it was fresh, once it was full, and on the day after.
+struct Life {
+    fresh: Book,
+    full: Book,
+    /// The place of the day after.
+    next: usize,
+    all_in: Book,
+}
+
+impl Life {
+    fn by(edition: u32) -> Life {
+        let fresh = Book::found(edition, LIMITS).expect("fit limits");
+        let (full, next) = first_of_seeds(|random| live(random, &fresh, first_day()));
+        let all_in = first_of_seeds(|random| all_in(random, &full, next));
+        Life {
+            fresh,
+            full,
+            next,
+            all_in,
+        }
+    }
+}
+
+fn first_day() -> usize {
+    calendar().place(2024, 11, 1)
+}
+
 /// The image has answers in it that only an opening and an end may write.
-fn base(name: &'static str, book: &Book) -> Base {
+fn base(name: &str, book: &Book) -> Base {
     assert!(book.is_sound(), "{name}");
     let mut image = Image::of(book);
     image.renewed = [1, 0, 0, 1, 1, 0, 1, 1];
@@ -64,15 +91,15 @@ fn base(name: &'static str, book: &Book) -> Base {
         product: 7,
     }; GROUP_COUNT];
     Base {
-        name,
+        name: format!("{name}, {}", book.edition),
         book: book.clone(),
         image,
     }
 }
 
-/// One of them, more often one of the last three, which have the most in them.
+/// One of them, more often one of those that have the most in them.
 pub fn draw<'a>(random: &mut Random, bases: &'a [Base]) -> &'a Base {
-    let from = random.pick(&[0, bases.len() - 3]);
+    let from = random.pick(&[0, bases.len() - 5]);
     &bases[from + random.below(bases.len() - from)]
 }
 
@@ -81,7 +108,7 @@ fn first_of_seeds<T>(draw: impl Fn(&mut Random) -> Option<T>) -> T {
     drawn.next().expect("a seed reaches it")
 }
 
-/// Lives through weekdays until windows and sheets are full and a group is marked; with the place of the next.
+/// Lives through weekdays until windows and sheets are full and groups stand as they should; with the place of the next.
 fn live(random: &mut Random, fresh: &Book, first: usize) -> Option<(Book, usize)> {
     let mut book = fresh.clone();
     let mut day = first;
@@ -99,12 +126,17 @@ fn live(random: &mut Random, fresh: &Book, first: usize) -> Option<(Book, usize)
 /// Full in every place, with groups enough at each standing for every event at the next end.
 fn is_full(book: &Book) -> bool {
     let at = |level| book.standings.iter().filter(move |one| one.level == level);
+    let is_marked = at(Level::Expanded).any(|one| one.marked);
     let is_full_window = |window: &Vec<u32>| window.len() == LARGEST_WINDOW;
     book.windows.iter().all(is_full_window)
         && are_full_sheets(&book.last_ended)
         && at(Level::Initial).count() >= 2
         && at(Level::Expanded).count() >= 3
-        && at(Level::Expanded).any(|one| one.marked)
+        && is_marked == has_marks(book)
+}
+
+fn has_marks(book: &Book) -> bool {
+    Edition::of(book.edition).is_some_and(Edition::has_marks)
 }
 
 fn are_full_sheets(sheets: &[Option<Sheet>]) -> bool {
@@ -119,7 +151,9 @@ fn all_in(random: &mut Random, ended: &Book, day: usize) -> Option<Book> {
     let book = filed(random, &opened(ended, day), 8);
     let events = book.clone().end().expect("all sheets are in");
     let kinds: HashSet<Discriminant<Event>> = events.iter().map(discriminant).collect();
-    (are_full_sheets(&book.sheets_in) && kinds.len() == 5).then_some(book)
+    // Without marks nothing is raised.
+    let is_every = kinds.len() == 4 + usize::from(has_marks(&book));
+    (are_full_sheets(&book.sheets_in) && is_every).then_some(book)
 }
 
 fn opened(book: &Book, day: usize) -> Book {

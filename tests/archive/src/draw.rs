@@ -1,6 +1,7 @@
 //! Calls to make on an image, drawn from a sound book: the image's own, or one that it is like.
 
 use oracle::amounts::LARGEST_FOUNDING;
+use oracle::book::edition::EDITIONS;
 use oracle::book::groups::group_of;
 use oracle::book::{Book, PRODUCT_COUNT};
 use oracle::history::call::{Call, FoundCall, SheetCall};
@@ -26,7 +27,7 @@ fn founding(random: &mut Random) -> Call {
         limits[random.below(PRODUCT_COUNT)] = LARGEST_FOUNDING;
     }
     Call::Found(FoundCall {
-        edition: 2023,
+        edition: random.pick(&EDITIONS),
         limits,
     })
 }

@@ -97,7 +97,7 @@ impl<'a> Run<'a> {
     }
 
     fn note_ended(&mut self, after: &Image) {
-        (after.events.iter()).for_each(|one| self.reached.count("event", one.kind));
+        self.reached.count_events(after);
         for (group, (led_by, _)) in COUPLED.into_iter().zip(LED_BY) {
             let event = after.events[group];
             if event.month != 0 {

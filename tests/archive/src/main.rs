@@ -5,6 +5,7 @@ mod arrays;
 mod bases;
 mod compare;
 mod draw;
+mod editions;
 mod fields;
 mod histories;
 mod images;
@@ -33,6 +34,7 @@ fn main() -> ExitCode {
     let mut comparer = compare::Comparer::new();
     let bases = bases::bases();
     images::compare(&mut comparer, &bases, &mut score);
+    editions::compare(&mut comparer, &bases, &mut score);
     old_format::compare(&mut comparer, &bases, &mut score);
     lefts::compare(&mut comparer, &bases, &mut score);
     arrays::compare(&mut comparer, &bases, &mut score);

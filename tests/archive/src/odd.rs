@@ -1,6 +1,7 @@
 //! Sound books that no list of calls makes, in images whose other words are random.
 
 use oracle::amounts::LARGEST_LIMIT;
+use oracle::book::edition::EDITIONS;
 use oracle::book::sheet::LARGEST_SHEET;
 use oracle::book::window::LARGEST_WINDOW;
 use oracle::book::{Book, Entry, Level, Limits, Sheet, Standing, PRODUCT_COUNT};
@@ -45,12 +46,13 @@ fn book(random: &mut Random) -> Book {
 
 /// Any limits, standings and windows.
 fn dateless(random: &mut Random) -> Book {
+    let edition = random.pick(&EDITIONS);
     Book {
-        edition: 2023,
+        edition,
         is_open: false,
         date: None,
         left: 0,
-        standings: std::array::from_fn(|_| standing(random)),
+        standings: std::array::from_fn(|_| standing(random, edition)),
         limits: std::array::from_fn(|product| limits(random, product)),
         windows: std::array::from_fn(|product| window(random, product)),
         sheets_in: Default::default(),
@@ -58,11 +60,12 @@ fn dateless(random: &mut Random) -> Book {
     }
 }
 
-fn standing(random: &mut Random) -> Standing {
+fn standing(random: &mut Random, edition: u32) -> Standing {
     let level = random.pick(&[Level::Initial, Level::Expanded]);
+    let can_be_marked = edition == 2023 && level == Level::Expanded;
     Standing {
         level,
-        marked: level == Level::Expanded && random.one_in(2),
+        marked: can_be_marked && random.one_in(2),
     }
 }
 

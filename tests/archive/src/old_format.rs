@@ -16,7 +16,7 @@ use crate::reached::UNSOUND;
 const SEED: u64 = 20_260_105;
 
 /// For each base, calls are drawn so often; many of them it would accept.
-const TURNS: usize = 200;
+const TURNS: usize = 100;
 
 type Failures = Vec<Option<String>>;
 

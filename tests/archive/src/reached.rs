@@ -2,6 +2,9 @@
 
 use std::collections::BTreeMap;
 
+use oracle::book::edition::EDITIONS;
+use oracle::image::Image;
+
 pub const UNSOUND: u32 = 1;
 
 /// A call, or what one brings about, and the numbers that it can give.
@@ -9,7 +12,7 @@ pub type Range = (&'static str, &'static [u32]);
 
 /// What each call can return.
 pub const ANSWERS: [Range; 6] = [
-    ("found", &[0, 13]),
+    ("found", &[0, 17, 13]),
     ("open", &[0, UNSOUND, 2, 3, 4, 16]),
     ("sheet", &[0, UNSOUND, 2, 5, 11, 6, 7, 8, 9, 10]),
     ("end", &[0, UNSOUND, 2, 12]),
@@ -20,7 +23,13 @@ pub const ANSWERS: [Range; 6] = [
 pub const CHECK: &[u32] = &[100, 101, 102, 103, UNSOUND, 2, 5, 14, 8];
 
 /// What accepted openings and ends put in: whether a product got new limits, and a group's event.
-pub const OUTCOMES: [Range; 2] = [("renewed", &[0, 1]), ("event", &[0, 1, 2, 3, 4])];
+pub const OUTCOMES: [Range; 3] = [("renewed", &[0, 1]), EVENTS[0], EVENTS[1]];
+
+/// By the editions in their order; that of 2014 raises nothing.
+pub const EVENTS: [Range; 2] = [
+    ("event by 2014", &[0, 1, 2, 3]),
+    ("event by 2023", &[0, 1, 2, 3, 4]),
+];
 
 pub const BROUGHT_BACK: &str = "brought back";
 pub const NONE_FULL: &str = "next, none full";
@@ -55,6 +64,15 @@ pub struct Reached {
 impl Reached {
     pub fn count(&mut self, what: &'static str, number: u32) {
         *self.counts.entry((what, number)).or_insert(0) += 1;
+    }
+
+    /// Counts the events that an end put into an image.
+    pub fn count_events(&mut self, after: &Image) {
+        let place = EDITIONS
+            .iter()
+            .position(|&edition| edition == after.edition);
+        let (what, _) = EVENTS[place.expect("an accepted end leaves an edition")];
+        (after.events.iter()).for_each(|one| self.count(what, one.kind));
     }
 
     pub fn times(&self, what: &'static str, number: u32) -> u64 {
@@ -95,6 +113,8 @@ mod tests {
             reached.count("found", 0);
         }
         reached.count("found", 13);
+        reached.count("found", 17);
+        reached.count("found", 17);
         assert_eq!(reached.judge(&ANSWERS[..1], |_, times| times >= 1), None);
         let rare = reached.judge(&ANSWERS[..1], |_, times| times >= 2);
         assert_eq!(rare.as_deref(), Some("found 13: 1"));

@@ -1,9 +1,11 @@
 //! Wrong values of a word: at the edges of its field, near its own, and its neighbours'.
 
 use oracle::amounts::{LARGEST_FOUNDING, LARGEST_LIMIT};
+use oracle::book::edition::EDITIONS;
 use oracle::image::{Image, WORDS};
 use oracle::prices::LARGEST_PRICE;
 use oracle::products::{Product, PRODUCTS};
+use oracle::testing::history::stray::FALSE_EDITIONS;
 
 use crate::fields::Field;
 
@@ -50,6 +52,7 @@ fn of_field(image: &Image, word: usize, own: u32) -> Vec<u32> {
     let field = Field::of(word);
     let row = field.product().map(|product| &PRODUCTS[product]);
     match (field, row) {
+        (Field::Edition, _) => [&EDITIONS[..], &FALSE_EDITIONS].concat(),
         (Field::Year, _) => vec![1999, 2000, 2001, 2098, 2099, 2100, own.wrapping_add(4)],
         (Field::Month, _) => vec![2, 4, 11, 12, 13],
         (Field::Day, _) => vec![28, 29, 30, 31, 32],
