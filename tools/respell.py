@@ -16,7 +16,7 @@ import sys
 STD = set("""length map take drop append cond eqb leb ltb and or not suc zero get_or set min max sum replicate reverse some none
 all any add sub mul div mod le lt""".split())
 HEAD = re.compile(r"^(?:(abbrev|unfoldable) )?(pub )?(?:(abbrev|unfoldable) )?(?:(data|record) )?([^\s:({=,.]+)\s*(?=[:({])")
-LOCAL = re.compile(r"^ {2,}(pub )?([^\s:({=,.]+)\s*:\s")
+LOCAL = re.compile(r"^ {2,}(?:(?:abbrev|unfoldable) )?(pub )?([^\s:({=,.]+)\s*:(?:\s|$)")
 SKIP = ("use ", "pub use ", "pub mod ", "mod ", "--", "infix", "ruleset ", "unfolding ")
 
 
@@ -104,7 +104,7 @@ def main():
         for n, new in sorted(turned.items()):
             print(n, new)
         return
-    files = glob.glob("crates/**/*.antt", recursive=True)
+    files = [p for p in glob.glob("crates/**/*.antt", recursive=True) if p.split("/")[2] != "out"]
     for path in sorted(files):
         text = read(path)
         new = turn(text, turned, True)
@@ -112,7 +112,7 @@ def main():
             with open(path, "w", encoding="utf-8") as f:
                 f.write(new)
     camel = {n: v for n, v in turned.items() if re.search("[a-z0-9][A-Z]", n) and "-" not in n}
-    for path in sorted(glob.glob("crates/**/*.rt", recursive=True) + glob.glob("crates/*/must-fail/*.edit") + glob.glob("docs/*.md") + ["README.md"]):
+    for path in sorted([p for p in glob.glob("crates/**/*.rt", recursive=True) if p.split("/")[2] != "out"] + glob.glob("crates/*/must-fail/*.edit") + glob.glob("docs/*.md") + ["README.md"]):
         if path.startswith("docs/PORT"):
             continue
         text = read(path)

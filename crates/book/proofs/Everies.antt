@@ -3,7 +3,7 @@ use mathlib.Core.Path.{◌≡◌, refl, sym, ◌∙◌, ap}
 use mathlib.Core.Bool.{Bool, true, false}
 use mathlib.Core.List.{List, [], ◌∷◌, ◌++◌}
 use Rattle.grain.specs.Lists.{◌and◌, every}
-use Rattle.record.specs.Choices.{concatMap}
+use Rattle.record.specs.Choices.{concat_map}
 
 pub and_assoc : (a b c : Bool) → (a and b) and c ≡ a and (b and c)
 unfolding ◌and◌
@@ -42,7 +42,7 @@ module _ {A : Type 0} (f : A → Bool) where
       ap ((f x and h x) and◌) (every_both h l) ∙ and_swap (f x) (h x) (every f l) (every h l)
 
 module _ {A B : Type 0} (f : B → Bool) (k : A → List B) where
-  pub every_concat : (l : List A) → every (λ x. every f (k x)) l ≡ every f (concatMap k l)
+  pub every_concat : (l : List A) → every (λ x. every f (k x)) l ≡ every f (concat_map k l)
   unfolding every
   every_concat [] = refl
-  every_concat (x ∷ l) = ap (every f (k x) and◌) (every_concat l) ∙ sym (every_joined f (k x) (concatMap k l))
+  every_concat (x ∷ l) = ap (every f (k x) and◌) (every_concat l) ∙ sym (every_joined f (k x) (concat_map k l))

@@ -11,7 +11,7 @@ use borrow.Author.Tests.{leb-true, ltb-true, ltb-false, lt-ltb, le-ltb}
 use Rattle.grain.specs.Products.{product_count}
 use Rattle.grain.proofs.Tests.{beq_same}
 use Rattle.grain.proofs.Below.{all_below, below, each}
-use Rattle.record.specs.Choices.{concatMap}
+use Rattle.record.specs.Choices.{concat_map}
 use Rattle.record.specs.State.{group_table, group_count, group_of}
 use Rattle.record.specs.History.{products_of}
 use Rattle.record.proofs.GroupTable.{group_small, no_group_lem}
@@ -47,7 +47,7 @@ none_before p = omega arith
 -- all of them are before a number that is no group
 pub all_before : (g : ℕ) → group_count ≤ g → products_before g ≡ product_count
 unfolding group_table products_before
-all_before g h = ap (λ (l : List (List ℕ)). length (concatMap (λ (ps : List ℕ). ps) l)) (take_all g group_table h)
+all_before g h = ap (λ (l : List (List ℕ)). length (concat_map (λ (ps : List ℕ). ps) l)) (take_all g group_table h)
 
 in_order : (g p : ℕ) → p < product_count → ltb p (products_before g) ≡ ltb (group_of p) g
 in_order g p l = go (ltb g group_count) refl

@@ -8,7 +8,7 @@ use Rattle.grain.specs.Lists.{◌and◌, every}
 use Rattle.grain.specs.Products.{is_product}
 use Rattle.grain.specs.Amounts.{expanded_of, is_fit_amount}
 use Rattle.grain.proofs.Every.{every_mapped}
-use Rattle.record.specs.Choices.{concatMap, is_some}
+use Rattle.record.specs.Choices.{concat_map, is_some}
 use Rattle.record.specs.State.{Product, Group, group_table}
 use Rattle.record.specs.Edition.{is_edition, conditions_of}
 use Rattle.record.specs.Sound.{is_sound_sheet, is_sound_window, is_sound_product, is_expanded, is_sound_group, is_sound_date, every_product, is_sound}
@@ -22,7 +22,7 @@ use Rattle.book.proofs.Everies.{and_late, every_both, every_concat}
 use Rattle.book.proofs.Numbers.{every_same}
 use Rattle.book.proofs.Views.{shown_group, groups_are}
 
-products_are : (b : Book) → concatMap (λ (g : Group). g.products) (view_groups b 0 group_table) ≡ map (view_product b) all_products
+products_are : (b : Book) → concat_map (λ (g : Group). g.products) (view_groups b 0 group_table) ≡ map (view_product b) all_products
 unfolding group_table view_group
 products_are b = refl
 
@@ -40,14 +40,14 @@ product_tests b p l =
     ap (λ (e : Bool). e and is_fit_amount p (limit_in b p).initial and eqb (limit_in b p).expanded (expanded_of p (limit_in b p).initial) and is_window_sound b.windows p and is_sound_sheet p (sheet_in (today_in b p)) and is_sound_sheet p (sheet_in (last_in b p))) l
     ∙ and_late (is_fit_amount p (limit_in b p).initial) (eqb (limit_in b p).expanded (expanded_of p (limit_in b p).initial)) (is_window_sound b.windows p) (is_sound_sheet p (sheet_in (today_in b p))) (is_sound_sheet p (sheet_in (last_in b p)))
 
-all_products : every is_product all_products ≡ true
+all_are_products : every is_product all_products ≡ true
 unfolding every ◌and◌
-all_products = refl
+all_are_products = refl
 
 each_product : (b : Book)
     → every (λ p. is_sound_product (view_product b p)) all_products
     ≡ every (λ p. are_items_sound p (limit_in b p) (today_in b p) (last_in b p) and is_window_sound b.windows p) all_products
-each_product b = every_same is_product _ _ (product_tests b) all_products all_products
+each_product b = every_same is_product _ _ (product_tests b) all_products all_are_products
 
 -- the tests of the products: of the items of each, then of the window of each
 pub products_tests : (b : Book)

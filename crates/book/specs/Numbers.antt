@@ -1,7 +1,7 @@
 -- The products and the groups by their numbers.
 use Rattle.std.specs.Prelude.{ℕ, zero, suc, List, [], ◌∷◌, length, take}
 use Rattle.grain.specs.Products.{product_count}
-use Rattle.record.specs.Choices.{concatMap}
+use Rattle.record.specs.Choices.{concat_map}
 use Rattle.record.specs.State.{group_table, group_count}
 
 -- n numbers from k on
@@ -17,4 +17,4 @@ all_groups = numbers_from 0 group_count
 
 -- how many products the groups before g have: the products of a group stand together, so that its own are those from this number on
 unfoldable pub products_before : ℕ → ℕ
-products_before g = length (concatMap (λ (ps : List ℕ). ps) (take g group_table))
+products_before g = length (concat_map (λ (ps : List ℕ). ps) (take g group_table))

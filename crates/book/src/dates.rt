@@ -5,7 +5,7 @@ ghost use Rattle.book.specs.Dates.{trade_date_of, dated_as};
 use grain::TradeDate;
 use record::Day;
 
-#[derive(Drop)]
+#[derive(Clone, Copy)]
 pub enum Dated {
     On(TradeDate),
     NoDay,

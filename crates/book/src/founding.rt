@@ -13,7 +13,7 @@ use record::{Contract, Day, GROUP_COUNT, MAX_CONTRACTS};
 use sheets::Sheet;
 use windows::Windows;
 
-#[derive(Drop)]
+#[derive(Clone, Copy)]
 pub struct Founding {
     // 0, or the number of the refusal.
     pub refusal: u32,

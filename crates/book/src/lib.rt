@@ -1,4 +1,6 @@
 // The book: what it holds, what that means as a Record, whether it is sound, and a fresh one; and the groups of products.
+#![tactic(auto)]
+
 use grain::PRODUCT_COUNT;
 use record::{Day, GROUP_COUNT};
 use sheets::Sheet;
@@ -18,21 +20,21 @@ pub use groups::{group_of, products_before};
 pub use soundness::{are_all_in, is_no_day, is_true_day};
 
 // A product's limits: I and E of the rule.
-#[derive(Drop)]
+#[derive(Clone, Copy)]
 pub struct Limit {
     pub initial: u32,
     pub expanded: u32,
 }
 
 // A group's level, and the rule's mark: held on the ended day before, with a move of exactly E, and no new limits since.
-#[derive(Drop)]
+#[derive(Clone, Copy)]
 pub struct Standing {
     pub expanded: bool,
     pub marked: bool,
 }
 
 // Copy a field before you index it: an index into a book that came by value has the whole book copied.
-#[derive(Drop)]
+#[derive(Clone, Copy)]
 pub struct Book {
     // The edition of the rule, by year.
     pub edition: u32,

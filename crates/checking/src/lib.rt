@@ -1,4 +1,6 @@
 // A price check on an open day.
+#![tactic(auto)]
+
 ghost use Rattle.checking.specs.Checks.{Checks};
 
 use book::Book;
@@ -9,7 +11,7 @@ mod terms;
 
 pub use terms::{Offered, Terms};
 
-#[derive(Drop)]
+#[derive(Clone, Copy)]
 pub enum Checked {
     Is(Verdict),
     // The number of the refusal.

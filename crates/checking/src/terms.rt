@@ -11,7 +11,7 @@ use grain::refusals::NO_SUCH_PRODUCT;
 use record::refusals::{UNSOUND, WRONG_PHASE};
 use sheets::Sheet;
 
-#[derive(Drop)]
+#[derive(Clone, Copy)]
 pub struct Terms {
     pub tick: u32,
     pub limit: u32,
@@ -20,7 +20,7 @@ pub struct Terms {
     pub last: Sheet,
 }
 
-#[derive(Drop)]
+#[derive(Clone, Copy)]
 pub struct Offered {
     // 0, or the number of the refusal.
     pub refusal: u32,

@@ -1,4 +1,6 @@
 // The conversion of a book from the edition of 2014 to that of 2023.
+#![tactic(auto)]
+
 ghost use Rattle.std.specs.Prelude.{◌≡◌};
 ghost use Rattle.converting.specs.Converts.{under2023, Converts};
 
@@ -8,7 +10,7 @@ mod refusals;
 
 use refusals::refusal_of;
 
-#[derive(Drop)]
+#[derive(Clone, Copy)]
 pub struct Converted {
     // 0, or the number of the refusal.
     pub refusal: u32,

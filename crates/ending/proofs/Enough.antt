@@ -23,7 +23,7 @@ use Rattle.book.proofs.SheetsIn.{sheet_contracts}
 use Rattle.ending.specs.declared.lead.Condition.{Condition}
 use Rattle.ending.specs.declared.lead.Condition.TheVariants.{OneAtInitial, TwoAtInitial, AtLeastInitial, AtExpanded}
 use Rattle.ending.specs.Lead.{meets, suffice}
-use Rattle.ending.specs.Search.{count_of, countAt, more_after, countFrom, are_enough_in, suffice_in}
+use Rattle.ending.specs.Search.{count_of, count_at, more_after, count_from, are_enough_in, suffice_in}
 
 -- what moves of exactly I count
 abbrev count_in : Move → ℕ
@@ -54,8 +54,8 @@ enough_by (m ∷ n ∷ ms) =
     ∙ sym (ap (◌|| any is_of_last_crop_month (m ∷ n ∷ ms)) (le-leb 2 (length (m ∷ n ∷ ms)) (omega arith)))
 
 -- a contract counts two at most
-pub at_most_two : (spot : ℕ → Bool) (p i : ℕ) (last : List Contract) (n : ℕ) (c : Contract) → countAt spot p i last n c ≤ 2
-unfolding countAt
+pub at_most_two : (spot : ℕ → Bool) (p i : ℕ) (last : List Contract) (n : ℕ) (c : Contract) → count_at spot p i last n c ≤ 2
+unfolding count_at
 at_most_two spot p i last n c = go (spot c.month || eqb n 0) (settlement_on last c.month)
   where
     some_change : (x y : Bool) → cond x (cond y 2 1) 0 ≤ 2
@@ -85,8 +85,8 @@ counted-append (m ∷ ms) ns = let later = counted-append ms ns in omega arith
 
 -- ---- the contracts of a sheet
 module _ (spot : ℕ → Bool) (q : Product) where
-  abbrev nonSpot : List Contract → List Contract
-  nonSpot s = keep (λ c. not (spot c.month)) s
+  abbrev non_spot : List Contract → List Contract
+  non_spot s = keep (λ c. not (spot c.month)) s
 
   abbrev last_of : Contract → Option ℕ
   last_of c = settlement_on (sheet_or q.last) c.month
@@ -104,10 +104,10 @@ module _ (spot : ℕ → Bool) (q : Product) where
       }
 
   -- those of one contract that trigger
-  abbrev triggersOf : Bool → Contract → Option ℕ → List Move
-  triggersOf is_first c o = keep is_trigger (move_from q is_first c o)
+  abbrev triggers_of : Bool → Contract → Option ℕ → List Move
+  triggers_of is_first c o = keep is_trigger (move_from q is_first c o)
 
-  first_counts : (c : Contract) (o : Option ℕ) → count_of q.number q.initial_limit c o ≡ counted (triggersOf true c o)
+  first_counts : (c : Contract) (o : Option ℕ) → count_of q.number q.initial_limit c o ≡ counted (triggers_of true c o)
   first_counts c none = refl
   first_counts c (some y) = go (eqb (distance c.settlement y) q.initial_limit) (is_last_crop_month q.number c.month) refl
     where
@@ -115,31 +115,31 @@ module _ (spot : ℕ → Bool) (q : Product) where
       go true z e = rw e (omega arith)
       go false z e = refl
 
-  late_counts : (c : Contract) (o : Option ℕ) → 0 ≡ counted (triggersOf false c o)
+  late_counts : (c : Contract) (o : Option ℕ) → 0 ≡ counted (triggers_of false c o)
   late_counts c none = refl
   late_counts c (some y) = refl
 
   one_counts : (n : ℕ) (c : Contract) (o : Option ℕ)
-      → cond (eqb n 0) 0 (count_of q.number q.initial_limit c o) ≡ counted (triggersOf (ltb 0 n) c o)
+      → cond (eqb n 0) 0 (count_of q.number q.initial_limit c o) ≡ counted (triggers_of (ltb 0 n) c o)
   one_counts n c o = go (eqb n 0) refl
     where
-      go : (x : Bool) → eqb n 0 ≡ x → cond x 0 (count_of q.number q.initial_limit c o) ≡ counted (triggersOf (ltb 0 n) c o)
+      go : (x : Bool) → eqb n 0 ≡ x → cond x 0 (count_of q.number q.initial_limit c o) ≡ counted (triggers_of (ltb 0 n) c o)
       go true e = let none = eqb-true n 0 e in rw (le-ltb 0 n (omega arith)) (late_counts c o)
       go false e = let more = eqb-false n 0 e in rw (lt-ltb 0 n (omega arith)) (first_counts c o)
 
-  abbrev countsFrom : ℕ → List Contract → ℕ
-  countsFrom n s = countFrom spot q.number q.initial_limit (sheet_or q.last) n s
+  abbrev counts_from : ℕ → List Contract → ℕ
+  counts_from n s = count_from spot q.number q.initial_limit (sheet_or q.last) n s
 
-  count_is : (n : ℕ) (s : List Contract) → countsFrom n s ≡ counted (keep is_trigger (moves_among q n (nonSpot s)))
-  unfolding countAt more_after
+  count_is : (n : ℕ) (s : List Contract) → counts_from n s ≡ counted (keep is_trigger (moves_among q n (non_spot s)))
+  unfolding count_at more_after
   count_is n [] = refl
   count_is n (c ∷ s) = go (spot c.month) refl (λ k. count_is k s)
     where
-      go : (x : Bool) → spot c.month ≡ x → ((k : ℕ) → countsFrom k s ≡ counted (keep is_trigger (moves_among q k (nonSpot s))))
-          → countsFrom n (c ∷ s) ≡ counted (keep is_trigger (moves_among q n (nonSpot (c ∷ s))))
+      go : (x : Bool) → spot c.month ≡ x → ((k : ℕ) → counts_from k s ≡ counted (keep is_trigger (moves_among q k (non_spot s))))
+          → counts_from n (c ∷ s) ≡ counted (keep is_trigger (moves_among q n (non_spot (c ∷ s))))
       go true e later = rw e (omega (arith, later n))
       go false e later =
-          let rest = moves_among q (pred n) (nonSpot s) in
+          let rest = moves_among q (pred n) (non_spot s) in
           let one = move_from q (ltb 0 n) c (last_of c) in
           rw (e, keep_append is_trigger one rest, counted-append (keep is_trigger one) (keep is_trigger rest), ← (one_counts n c (last_of c)), ← (later (pred n)))
 

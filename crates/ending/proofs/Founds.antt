@@ -5,7 +5,7 @@ use mathlib.Core.List.{List}
 use mathlib.Core.Option.{Option, some, none}
 use Rattle.grain.specs.Lists.{any}
 use Rattle.record.specs.declared.Lead.{Lead}
-use Rattle.record.specs.Choices.{keep, concatMap, is_some}
+use Rattle.record.specs.Choices.{keep, concat_map, is_some}
 use Rattle.record.specs.Move.{Move}
 use Rattle.record.specs.End.{leading}
 use Rattle.ending.specs.declared.lead.Found.{Found}
@@ -29,9 +29,9 @@ module _ (o : Option Lead) (r : Found) (e : r ≡ found_as o) where
       go (some m) h = let is : m ≡ l = cc in ap some is
 
 -- whether one moved so
-module _ (g : Move → Bool) (mss : List (List Move)) (r : Found) (e : r ≡ found_as (leading (concatMap (keep g) mss))) where
+module _ (g : Move → Bool) (mss : List (List Move)) (r : Found) (e : r ≡ found_as (leading (concat_map (keep g) mss))) where
   pub nobody_moved : r ≡ Nobody → false ≡ any (any g) mss
-  nobody_moved t = sym (sym (leading-any g mss) ∙ ap is_some (nobody (leading (concatMap (keep g) mss)) r e t))
+  nobody_moved t = sym (sym (leading-any g mss) ∙ ap is_some (nobody (leading (concat_map (keep g) mss)) r e t))
 
   pub one_moved : (l : Lead) → r ≡ At l → true ≡ any (any g) mss
-  one_moved l t = sym (sym (leading-any g mss) ∙ ap is_some (found_at (leading (concatMap (keep g) mss)) r e l t))
+  one_moved l t = sym (sym (leading-any g mss) ∙ ap is_some (found_at (leading (concat_map (keep g) mss)) r e l t))

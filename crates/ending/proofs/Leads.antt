@@ -10,7 +10,7 @@ use native.Mathlib.Omega.{arith}
 use borrow.Author.Tests.{lt-ltb, le-ltb, eq-eqb, ne_eqb}
 use Rattle.grain.specs.Lists.{any}
 use Rattle.record.specs.declared.Lead.{Lead}
-use Rattle.record.specs.Choices.{keep, concatMap, is_some}
+use Rattle.record.specs.Choices.{keep, concat_map, is_some}
 use Rattle.record.specs.Move.{Move}
 use Rattle.record.specs.End.{is_ahead, ahead_of, leading}
 use Rattle.ending.proofs.Members.{Member}
@@ -67,9 +67,9 @@ module _ (g : Move → Bool) where
       go true e later = rw e
       go false e later = rw (e, later)
 
-  pub leading-any : (mss : List (List Move)) → is_some (leading (concatMap (keep g) mss)) ≡ any (any g) mss
+  pub leading-any : (mss : List (List Move)) → is_some (leading (concat_map (keep g) mss)) ≡ any (any g) mss
   leading-any [] = refl
-  leading-any (ms ∷ mss) = some_leads (keep g ms) (concatMap (keep g) mss) ∙ ap₂ ◌||◌ (kept_any ms) (leading-any mss)
+  leading-any (ms ∷ mss) = some_leads (keep g ms) (concat_map (keep g) mss) ∙ ap₂ ◌||◌ (kept_any ms) (leading-any mss)
 
 -- ---- which leads
 pub none-lead : (ms : List Move) → ((v : Move) → Member v ms → ⊥) → leading ms ≡ none

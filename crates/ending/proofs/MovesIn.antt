@@ -16,7 +16,7 @@ use Rattle.record.specs.Choices.{keep}
 use Rattle.record.specs.State.{Product, sheet_or, settlement_on}
 use Rattle.record.specs.Move.{Move, move_from, moves_among, product_moves}
 use Rattle.sheets.specs.Sheets.{months_of}
-use Rattle.ending.specs.Search.{countEarlier, change_meets, meets_on}
+use Rattle.ending.specs.Search.{count_earlier, change_meets, meets_on}
 use Rattle.ending.proofs.Earlier.{count_spot, count_late, count_early}
 use Rattle.ending.proofs.Members.{Member, member_either}
 
@@ -61,13 +61,13 @@ ltb_pred k (suc n) = go (ltb k n) refl
     go true e = lt-ltb (1 + k) (suc n) (omega (arith, ltb-true k n e)) ∙ sym e
     go false e = le-ltb (1 + k) (suc n) (omega (arith, ltb-false k n e)) ∙ sym e
 
-count_above : (spot : ℕ → Bool) (m : ℕ) (s : List Contract) → Above m s → countEarlier spot m s ≡ 0
+count_above : (spot : ℕ → Bool) (m : ℕ) (s : List Contract) → Above m s → count_earlier spot m s ≡ 0
 count_above spot m [] u = refl
 count_above spot m (c ∷ s) u = count_late spot m c s (omega arith) ∙ count_above spot m s u.1
 
 module _ (g : Move → Bool) (spot : ℕ → Bool) (q : Product) (m : ℕ) where
-  abbrev nonSpot : List Contract → List Contract
-  nonSpot s = keep (λ c. not (spot c.month)) s
+  abbrev non_spot : List Contract → List Contract
+  non_spot s = keep (λ c. not (spot c.month)) s
 
   abbrev last_of : Contract → Option ℕ
   last_of c = settlement_on (sheet_or q.last) c.month
@@ -83,40 +83,40 @@ module _ (g : Move → Bool) (spot : ℕ → Bool) (q : Product) (m : ℕ) where
   this_month c is_first none l h e = e
   this_month c is_first (some y) l h e = rw (h, eq-eqb m m refl, e) (or_false _)
 
-  no_move_above : (n : ℕ) (s : List Contract) → Above m s → has_move g m (moves_among q n (nonSpot s)) ≡ false
+  no_move_above : (n : ℕ) (s : List Contract) → Above m s → has_move g m (moves_among q n (non_spot s)) ≡ false
   no_move_above n [] u = refl
   no_move_above n (c ∷ s) u = go (spot c.month) refl (λ k. no_move_above k s u.1)
     where
-      go : (x : Bool) → spot c.month ≡ x → ((k : ℕ) → has_move g m (moves_among q k (nonSpot s)) ≡ false)
-          → has_move g m (moves_among q n (nonSpot (c ∷ s))) ≡ false
+      go : (x : Bool) → spot c.month ≡ x → ((k : ℕ) → has_move g m (moves_among q k (non_spot s)) ≡ false)
+          → has_move g m (moves_among q n (non_spot (c ∷ s))) ≡ false
       go true e later = rw e (later n)
-      go false e later = rw e (other_month c (ltb 0 n) (last_of c) (moves_among q (pred n) (nonSpot s)) (omega arith) ∙ later (pred n))
+      go false e later = rw e (other_month c (ltb 0 n) (last_of c) (moves_among q (pred n) (non_spot s)) (omega arith) ∙ later (pred n))
 
-  no_spot_move : spot m ≡ true → (n : ℕ) (s : List Contract) → has_move g m (moves_among q n (nonSpot s)) ≡ false
+  no_spot_move : spot m ≡ true → (n : ℕ) (s : List Contract) → has_move g m (moves_among q n (non_spot s)) ≡ false
   no_spot_move h n [] = refl
   no_spot_move h n (c ∷ s) = go (spot c.month) refl (λ k. no_spot_move h k s)
     where
-      go : (x : Bool) → spot c.month ≡ x → ((k : ℕ) → has_move g m (moves_among q k (nonSpot s)) ≡ false)
-          → has_move g m (moves_among q n (nonSpot (c ∷ s))) ≡ false
+      go : (x : Bool) → spot c.month ≡ x → ((k : ℕ) → has_move g m (moves_among q k (non_spot s)) ≡ false)
+          → has_move g m (moves_among q n (non_spot (c ∷ s))) ≡ false
       go true e later = rw e (later n)
-      go false e later = rw e (other_month c (ltb 0 n) (last_of c) (moves_among q (pred n) (nonSpot s)) (λ same. false≢true (sym e ∙ rw same h)) ∙ later (pred n))
+      go false e later = rw e (other_month c (ltb 0 n) (last_of c) (moves_among q (pred n) (non_spot s)) (λ same. false≢true (sym e ∙ rw same h)) ∙ later (pred n))
 
   -- the move of a month that is not spot
   module _ (h : spot m ≡ false) where
-    abbrev byTheSheets : ℕ → List Contract → Bool
-    byTheSheets n s =
-        change_meets g q.number q.initial_limit q.expanded_limit m (ltb (countEarlier spot m s) n) (settlement_on s m)
+    abbrev by_the_sheets : ℕ → List Contract → Bool
+    by_the_sheets n s =
+        change_meets g q.number q.initial_limit q.expanded_limit m (ltb (count_earlier spot m s) n) (settlement_on s m)
         (settlement_on (sheet_or q.last) m)
 
     move_is : (n : ℕ) (s : List Contract) → is_ascending (months_of s) ≡ true
-        → has_move g m (moves_among q n (nonSpot s)) ≡ byTheSheets n s
+        → has_move g m (moves_among q n (non_spot s)) ≡ by_the_sheets n s
     move_is n [] a = refl
     move_is n (c ∷ s) a =
         go (spot c.month) refl (eqb c.month m) refl (ltb c.month m) refl (λ k. move_is k s (ascending_rest c s a))
       where
         go : (x : Bool) → spot c.month ≡ x → (y : Bool) → eqb c.month m ≡ y → (z : Bool) → ltb c.month m ≡ z
-            → ((k : ℕ) → has_move g m (moves_among q k (nonSpot s)) ≡ byTheSheets k s)
-            → has_move g m (moves_among q n (nonSpot (c ∷ s))) ≡ byTheSheets n (c ∷ s)
+            → ((k : ℕ) → has_move g m (moves_among q k (non_spot s)) ≡ by_the_sheets k s)
+            → has_move g m (moves_among q n (non_spot (c ∷ s))) ≡ by_the_sheets n (c ∷ s)
         go true e true v z w later = absurd (false≢true (sym h ∙ rw (eqb-true c.month m v) at e))
         go true e false v z w later = rw (count_spot spot m c s e, e, v) (later n)
         go false e true v z w later =
@@ -124,17 +124,17 @@ module _ (g : Move → Bool) (spot : ℕ → Bool) (q : Product) (m : ℕ) where
             let above : Above m s = subst (λ (k : ℕ). Above k s) same (ascending_above c s a) in
             let first = count_late spot m c s (omega arith) ∙ count_above spot m s above in
             rw (first, e, v)
-            (this_month c (ltb 0 n) (last_of c) (moves_among q (pred n) (nonSpot s)) same (no_move_above (pred n) s above)
+            (this_month c (ltb 0 n) (last_of c) (moves_among q (pred n) (non_spot s)) same (no_move_above (pred n) s above)
             ∙ ap (λ (k : ℕ). change_meets g q.number q.initial_limit q.expanded_limit m (ltb 0 n) (some c.settlement) (settlement_on (sheet_or q.last) k)) same)
         go false e false v true w later =
             let early = ltb-true c.month m w in
-            rw (count_early spot m c s e early, e, v, ltb_pred (countEarlier spot m s) n)
-            (other_month c (ltb 0 n) (last_of c) (moves_among q (pred n) (nonSpot s)) (eqb-false _ _ v) ∙ later (pred n))
+            rw (count_early spot m c s e early, e, v, ltb_pred (count_earlier spot m s) n)
+            (other_month c (ltb 0 n) (last_of c) (moves_among q (pred n) (non_spot s)) (eqb-false _ _ v) ∙ later (pred n))
         go false e false v false w later =
             let no = eqb-false c.month m v in
             let above = above_more m c.month s (omega (arith, ltb-false c.month m w)) (ascending_above c s a) in
             rw (e, v, none_above m s above)
-            (other_month c (ltb 0 n) (last_of c) (moves_among q (pred n) (nonSpot s)) no ∙ no_move_above (pred n) s above)
+            (other_month c (ltb 0 n) (last_of c) (moves_among q (pred n) (non_spot s)) no ∙ no_move_above (pred n) s above)
 
   pub moves_of_month : is_ascending (months_of (sheet_or q.today)) ≡ true
       → has_move g m (product_moves spot q)

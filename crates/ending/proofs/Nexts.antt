@@ -78,33 +78,33 @@ next_of ss a r [] = r
 next_of ss a r (p ∷ ps) = next_of ss a (next_in a r (contracts_of (get_or ss p no_sheet))) ps
 
 module _ (ss : List Sheet) where
-  abbrev sheetAt : ℕ → List Contract
-  sheetAt p = contracts_of (get_or ss p no_sheet)
+  abbrev sheet_at : ℕ → List Contract
+  sheet_at p = contracts_of (get_or ss p no_sheet)
 
   of_keep : (a r n : ℕ) (ps : List ℕ) → Under a r n → Under a (next_of ss a r ps) n
   of_keep a r n [] u = u
-  of_keep a r n (p ∷ ps) u = of_keep a (next_in a r (sheetAt p)) n ps (in_keep a r n (sheetAt p) u)
+  of_keep a r n (p ∷ ps) u = of_keep a (next_in a r (sheet_at p)) n ps (in_keep a r n (sheet_at p) u)
 
   -- a month on the sheet of one of the products is not nearer than the next month
-  pub next_under : (a r n lo k p : ℕ) → lo ≤ p → p < lo + k → is_some (settlement_on (sheetAt p) n) ≡ true
+  pub next_under : (a r n lo k p : ℕ) → lo ≤ p → p < lo + k → is_some (settlement_on (sheet_at p) n) ≡ true
       → Under a (next_of ss a r (numbers_from lo k)) n
   next_under a r n lo zero p h l e = absurd (omega arith)
   next_under a r n lo (suc k) p h l e =
-      go (next_under a (next_in a r (sheetAt lo)) n (suc lo) k p)
+      go (next_under a (next_in a r (sheet_at lo)) n (suc lo) k p)
     where
-      go : (suc lo ≤ p → p < suc lo + k → is_some (settlement_on (sheetAt p) n) ≡ true
-          → Under a (next_of ss a (next_in a r (sheetAt lo)) (numbers_from (suc lo) k)) n)
-          → Under a (next_of ss a (next_in a r (sheetAt lo)) (numbers_from (suc lo) k)) n
+      go : (suc lo ≤ p → p < suc lo + k → is_some (settlement_on (sheet_at p) n) ≡ true
+          → Under a (next_of ss a (next_in a r (sheet_at lo)) (numbers_from (suc lo) k)) n)
+          → Under a (next_of ss a (next_in a r (sheet_at lo)) (numbers_from (suc lo) k)) n
       go later =
           ⊎_elim
-          (λ same. of_keep a (next_in a r (sheetAt lo)) n (numbers_from (suc lo) k) (in_all a r n (sheetAt lo) (rw same e)))
+          (λ same. of_keep a (next_in a r (sheet_at lo)) n (numbers_from (suc lo) k) (in_all a r n (sheet_at lo) (rw same e)))
           (λ above. later above (omega arith) e)
           (eq-or-lt_of_le h)
 
   -- the next month is after the month
   pub next-after : (a r : ℕ) (ps : List ℕ) → After a r → After a (next_of ss a r ps)
   next-after a r [] u = u
-  next-after a r (p ∷ ps) u = next-after a (next_in a r (sheetAt p)) ps (in_after a r (sheetAt p) u)
+  next-after a r (p ∷ ps) u = next-after a (next_in a r (sheet_at p)) ps (in_after a r (sheet_at p) u)
 
   -- where a loop over the products of a group is through, its month is the next
   pub next-all : (a r p hi : ℕ) (group : List ℕ) → hi ≤ p → next_of ss a 0 group ≡ next_of ss a r (numbers_from p (hi - p)) → r ≡ next_of ss a 0 group

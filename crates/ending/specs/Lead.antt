@@ -6,7 +6,7 @@ use Rattle.grain.specs.Products.{product_count}
 use Rattle.grain.specs.Spot.{is_spot}
 use Rattle.grain.specs.declared.spot.TradeDate.{TradeDate}
 use Rattle.record.specs.declared.Lead.{Lead}
-use Rattle.record.specs.Choices.{keep, concatMap}
+use Rattle.record.specs.Choices.{keep, concat_map}
 use Rattle.record.specs.State.{max_contracts}
 use Rattle.record.specs.Move.{Move, product_moves, is_trigger, is_at_least_initial, is_at_expanded}
 use Rattle.record.specs.Edition.{of2014}
@@ -38,7 +38,7 @@ candidates condition ms = let l = keep (meets condition) ms in cond (suffice con
 
 -- the leading contract from the moves of each product
 abbrev pub lead_for : Condition → List (List Move) → Option Lead
-lead_for condition mss = leading (concatMap (candidates condition) mss)
+lead_for condition mss = leading (concat_map (candidates condition) mss)
 
 -- what the search answers for a leading contract or none
 abbrev pub found_as : Option Lead → Found

@@ -28,13 +28,13 @@ next_in a r (c ∷ s) = next_in a (sooner a r c.month) s
 
 module _ (spot : ℕ → Bool) (m : ℕ) where
   -- 1 for a non-spot contract before month m
-  unfoldable pub oneIfEarlier : ℕ → ℕ
-  oneIfEarlier month = cond (spot month) 0 (cond (ltb month m) 1 0)
+  unfoldable pub one_if_earlier : ℕ → ℕ
+  one_if_earlier month = cond (spot month) 0 (cond (ltb month m) 1 0)
 
   -- how many non-spot contracts of a sheet are before month m
-  abbrev pub countEarlier : List Contract → ℕ
-  countEarlier [] = 0
-  countEarlier (c ∷ s) = oneIfEarlier c.month + countEarlier s
+  abbrev pub count_earlier : List Contract → ℕ
+  count_earlier [] = 0
+  count_earlier (c ∷ s) = one_if_earlier c.month + count_earlier s
 
 -- whether the move of product p in month m meets g; i and e are its limits. A contract that is not on both sheets has none
 abbrev pub change_meets : (Move → Bool) → ℕ → ℕ → ℕ → ℕ → Bool → Option ℕ → Option ℕ → Bool
@@ -47,7 +47,7 @@ change_meets g p i e m is_first (some x) (some y) =
 unfoldable pub meets_on : (Move → Bool) → (ℕ → Bool) → ℕ → ℕ → ℕ → List Contract → List Contract → ℕ → Bool
 meets_on g spot p i e today last m =
     cond (spot m) false
-    (change_meets g p i e m (ltb (countEarlier spot m today) (first_of p)) (settlement_on today m) (settlement_on last m))
+    (change_meets g p i e m (ltb (count_earlier spot m today) (first_of p)) (settlement_on today m) (settlement_on last m))
 
 -- ---- two moves of exactly I, or one of the last crop-year month, which counts as two
 -- what a contract counts whose change is from the settlement before; i is its product's I
@@ -61,17 +61,17 @@ more_after spot n month = cond (spot month) n (pred n)
 
 module _ (spot : ℕ → Bool) (p i : ℕ) (last : List Contract) where
   -- what a contract counts where n more can trigger
-  unfoldable pub countAt : ℕ → Contract → ℕ
-  countAt n c = cond (spot c.month || eqb n 0) 0 (count_of p i c (settlement_on last c.month))
+  unfoldable pub count_at : ℕ → Contract → ℕ
+  count_at n c = cond (spot c.month || eqb n 0) 0 (count_of p i c (settlement_on last c.month))
 
   -- what the contracts of a sheet count, of which the first n non-spot ones can trigger
-  abbrev pub countFrom : ℕ → List Contract → ℕ
-  countFrom n [] = 0
-  countFrom n (c ∷ s) = countAt n c + countFrom (more_after spot n c.month) s
+  abbrev pub count_from : ℕ → List Contract → ℕ
+  count_from n [] = 0
+  count_from n (c ∷ s) = count_at n c + count_from (more_after spot n c.month) s
 
 abbrev pub are_enough_in : TradeDate → ℕ → ℕ → Sheet → Sheet → Bool
 are_enough_in date p i current last =
-    leb 2 (countFrom (is_spot date) p i (contracts_of last) (first_of p) (contracts_of current))
+    leb 2 (count_from (is_spot date) p i (contracts_of last) (first_of p) (contracts_of current))
 
 -- ---- the same of a product of a book: its limits, today's sheet and that of the last ended day
 abbrev pub suffice_in : Condition → TradeDate → ℕ → Limit → Sheet → Sheet → Bool

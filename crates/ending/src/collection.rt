@@ -17,7 +17,7 @@ use sheets::{Listed, Sheet};
 use windows::Windows;
 
 // The contract that is collected on a day.
-#[derive(Drop)]
+#[derive(Clone, Copy)]
 pub enum Collecting {
     Month(u32),
     Resting,

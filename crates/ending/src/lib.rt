@@ -1,4 +1,6 @@
 // The end of a day: for each group its event with the leading contract, its level, mark and limits; then the windows.
+#![tactic(auto)]
+
 ghost use Rattle.std.specs.Prelude.{◌≡◌, true};
 ghost use Rattle.record.specs.State.{trade_date};
 ghost use Rattle.record.specs.Opening.{is_true_day};
@@ -27,7 +29,7 @@ use limits::limits_after;
 use refusals::refusal_of;
 use standings::standings_after;
 
-#[derive(Drop)]
+#[derive(Clone, Copy)]
 pub struct Ended {
     // 0, or the number of the refusal.
     pub refusal: u32,

@@ -37,8 +37,8 @@ by sound is_open product is_in shape =
     0
 
 module _ (b : Book) (p : ℕ) (ms ss : List ℕ) where
-  abbrev sheetIsIn : Bool
-  sheetIsIn = is_some (product_in (group_at (view b) (group_of p)) p).today
+  abbrev sheet_is_in_lem : Bool
+  sheet_is_in_lem = is_some (product_in (group_at (view b) (group_of p)) p).today
 
   abbrev number : ℕ
   number = or_else (first (early_tests (view b) p ms ss)) 0
@@ -57,9 +57,9 @@ module _ (b : Book) (p : ℕ) (ms ss : List ℕ) where
       module _ (product : is_product p ≡ true) where
         past : number ≡ by true true true (not (eqb (today_in b p).len 0)) (is_misshapen ms ss)
         past =
-            ap (λ x. by x (view b).common.is_open (is_product p) sheetIsIn (is_misshapen ms ss)) sound
-            ∙ ap (λ x. by true x (is_product p) sheetIsIn (is_misshapen ms ss)) (open_is b ∙ is_open)
-            ∙ ap (λ x. by true true x sheetIsIn (is_misshapen ms ss)) product
+            ap (λ x. by x (view b).common.is_open (is_product p) sheet_is_in_lem (is_misshapen ms ss)) sound
+            ∙ ap (λ x. by true x (is_product p) sheet_is_in_lem (is_misshapen ms ss)) (open_is b ∙ is_open)
+            ∙ ap (λ x. by true true x sheet_is_in_lem (is_misshapen ms ss)) product
             ∙ ap (λ x. by true true true x (is_misshapen ms ss)) (today_is b p (ltb-true p 8 product))
 
         pub refused_11 : ((today_in b p).len ≡ 0 → ⊥) → already_in ≡ number

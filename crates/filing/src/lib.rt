@@ -1,4 +1,6 @@
 // A product's sheet of the open day.
+#![tactic(auto)]
+
 ghost use Rattle.std.specs.Prelude.{◌≡◌, List, ℕ, ◌<◌};
 ghost use Rattle.std.proofs.Math.Option.{some};
 ghost use Rattle.grain.specs.Products.{product_count};
@@ -16,7 +18,7 @@ mod refusals;
 
 use refusals::{contract_refusal, early_refusal};
 
-#[derive(Drop)]
+#[derive(Clone, Copy)]
 pub struct Filed {
     // 0, or the number of the refusal.
     pub refusal: u32,

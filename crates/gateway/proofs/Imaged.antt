@@ -128,14 +128,14 @@ never_unsound_lem s cs vs z run =
 module _ (s : Start) (g : ℕ) (cs ds : List Call) (us vs : List Seen) (y z : List ℕ) (one : ImageRun s cs us y) (other : ImageRun s ds vs z)
     (same : SameFor g (history_of s cs) (history_of s ds)) where
   same_day : (view (book_in y)).common ≡ (view (book_in z)).common
-  same_day = agrees.same-day s g cs ds (book_in y) (book_in z) (contents_are s cs us y one) (contents_are s ds vs z other) same
+  same_day = agrees.same_day s g cs ds (book_in y) (book_in z) (contents_are s cs us y one) (contents_are s ds vs z other) same
 
   same_group : group_at (view (book_in y)) g ≡ group_at (view (book_in z)) g
-  same_group = agrees.same-group s g cs ds (book_in y) (book_in z) (contents_are s cs us y one) (contents_are s ds vs z other) same
+  same_group = agrees.same_group s g cs ds (book_in y) (book_in z) (contents_are s cs us y one) (contents_are s ds vs z other) same
 
   same_answers : (p size month price : ℕ) → group_of p ≡ g → answer_to y (check p size month price) ≡ answer_to z (check p size month price)
   same_answers =
-      agrees.same-checks s g cs ds (book_in y) (book_in z) (contents_are s cs us y one) (contents_are s ds vs z other) same (accepted s cs us y one)
+      agrees.same_checks s g cs ds (book_in y) (book_in z) (contents_are s cs us y one) (contents_are s ds vs z other) same (accepted s cs us y one)
 
 pub whole_images : WholeImages
 whole_images =
@@ -150,13 +150,13 @@ whole_images =
       together = λ s cs vs z run. agrees.together s cs (book_in z) (contents_are s cs vs z run);
       coupled = λ s cs vs z run. agrees.coupled s cs (book_in z) (contents_are s cs vs z run);
       resent = λ s cs vs z run p size month price. resends s cs vs z run p size month price _ refl;
-      staysFree =
+      stays_free =
           λ s cs ds us vs y z one other.
-          agrees.stays-free s (accepted s cs us y one) cs ds (book_in y) (book_in z) (contents_are s cs us y one) (contents_are s _ vs z other);
-      sameDay = same_day;
-      sameGroup = same_group;
-      sameSpans = λ s g cs ds us vs y z one other same p size month price e. ap with_span (same_answers s g cs ds us vs y z one other same p size month price e);
-      sameChecks = λ s g cs ds us vs y z one other same p size month price e. ap answer_number (same_answers s g cs ds us vs y z one other same p size month price e);
+          agrees.stays_free s (accepted s cs us y one) cs ds (book_in y) (book_in z) (contents_are s cs us y one) (contents_are s _ vs z other);
+      same_day = same_day;
+      same_group = same_group;
+      same_spans = λ s g cs ds us vs y z one other same p size month price e. ap with_span (same_answers s g cs ds us vs y z one other same p size month price e);
+      same_checks = λ s g cs ds us vs y z one other same p size month price e. ap answer_number (same_answers s g cs ds us vs y z one other same p size month price e);
     }
 
 -- ---- words with no book in them

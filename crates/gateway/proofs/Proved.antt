@@ -1,14 +1,14 @@
 -- What holds of every list of checks through one tally, bare ones and those on books.
 use mathlib.Core.Path.{refl}
 use Rattle.grain.specs.Bare.{bare_answer}
-use Rattle.tally.specs.Through.{talliedAnswer, tallyAfter}
+use Rattle.tally.specs.Through.{tallied_answer, tally_after}
 use Rattle.tally.proofs.Totals.{Lawful}
 use Rattle.tally.proofs.Proved.{through_one_tally}
 use Rattle.gateway.specs.Through.{bare_checks, BareThroughOneTally, image_checks, ImagesThroughOneTally}
 use Rattle.gateway.proofs.NotFull.{bare_not_full, image_not_full}
 
 bare_lawful : Lawful bare_checks
-unfolding talliedAnswer tallyAfter
+unfolding tallied_answer tally_after
 bare_lawful =
     record {
       answers = λ t o r u p. p.answer;
@@ -21,7 +21,7 @@ pub bare_through_one_tally : BareThroughOneTally
 bare_through_one_tally = through_one_tally bare_checks bare_lawful
 
 images_lawful : Lawful image_checks
-unfolding talliedAnswer tallyAfter
+unfolding tallied_answer tally_after
 images_lawful =
     record {
       answers = λ t o r u p. p.answer;

@@ -84,25 +84,25 @@ pub record WholeImages : Type 0 where
       → (p size month price : ℕ) → 0 < (image_span z p size month price).lowest
       → ResentImage z p size month (image_span z p size month price)
   -- a contract month that a check found free is free in every later check that is answered, of any product and price
-  pub staysFree :
+  pub stays_free :
       (s : Start) (cs ds : List Call) (us vs : List Seen) (y z : List ℕ) → ImageRun s cs us y → ImageRun s (cs ++ ds) vs z
       → (p q i j month x w : ℕ) (v : Verdict)
       → answer_to y (check p i month x) ≡ checked Free → answer_to z (check q j month w) ≡ checked v → v ≡ Free
   -- two lists with the same edition and founding limits that agree on the accepted openings and ends and on one group's sheets of each day:
   -- the same day is open after both, or none
-  pub sameDay :
+  pub same_day :
       (s : Start) (g : ℕ) (cs ds : List Call) (us vs : List Seen) (y z : List ℕ) → ImageRun s cs us y → ImageRun s ds vs z
       → SameFor g (history_of s cs) (history_of s ds) → (view (book_in y)).common ≡ (view (book_in z)).common
   -- that group is the same
-  pub sameGroup :
+  pub same_group :
       (s : Start) (g : ℕ) (cs ds : List Call) (us vs : List Seen) (y z : List ℕ) → ImageRun s cs us y → ImageRun s ds vs z
       → SameFor g (history_of s cs) (history_of s ds) → group_at (view (book_in y)) g ≡ group_at (view (book_in z)) g
   -- and any check on it returns the same number and the same span
-  pub sameSpans :
+  pub same_spans :
       (s : Start) (g : ℕ) (cs ds : List Call) (us vs : List Seen) (y z : List ℕ) → ImageRun s cs us y → ImageRun s ds vs z
       → SameFor g (history_of s cs) (history_of s ds) → (p size month price : ℕ) → group_of p ≡ g
       → image_span y p size month price ≡ image_span z p size month price
-  pub sameChecks :
+  pub same_checks :
       (s : Start) (g : ℕ) (cs ds : List Call) (us vs : List Seen) (y z : List ℕ) → ImageRun s cs us y → ImageRun s ds vs z
       → SameFor g (history_of s cs) (history_of s ds) → (p size month price : ℕ) → group_of p ≡ g
       → image_check y p size month price ≡ image_check z p size month price

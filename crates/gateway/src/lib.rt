@@ -1,5 +1,7 @@
 // What C programs call: the bare check, the calls on a book, the span of either check, and either check through a tally. include/botskhela.h says what the
 // arguments and answers are. No function here has a `requires`; a book is the words of its image, lent by reference.
+#![tactic(auto)]
+
 ghost use Rattle.std.specs.Prelude.{◌≡◌};
 ghost use Rattle.grain.specs.Bare.{bare_check};
 

@@ -12,7 +12,7 @@ use image::{WORDS, book_in};
 
 // An answer's number and the ends of its span, which are 0 where it is free or refused.
 #[repr(C)]
-#[derive(Drop)]
+#[derive(Clone, Copy)]
 pub struct Spanned {
     pub answer: u32,
     pub lowest: u32,

@@ -13,10 +13,10 @@ use Rattle.grain.specs.declared.check.Verdict.{Verdict}
 use Rattle.grain.specs.declared.check.Verdict.TheVariants.{Free, Within, Below, Above}
 
 module _ (tick settlement limit price : ℕ) where
-  pub is_within : settlement ≤ price + limit → price ≤ settlement + limit
+  pub lies_within : settlement ≤ price + limit → price ≤ settlement + limit
       → verdict false tick settlement limit price ≡ Within (span_by tick settlement limit)
   unfolding verdict
-  is_within l h =
+  lies_within l h =
       let near : distance price settlement ≤ limit = omega arith in
       simp (le-leb (distance price settlement) limit near)
 

@@ -14,7 +14,7 @@ use Rattle.grain.proofs.Tests.{&&-left, &&-right}
 use Rattle.grain.proofs.Below.{below}
 use Rattle.grain.proofs.PriceFacts.{Priced, priced, on_tick}
 use Rattle.grain.proofs.Fits.{fit_facts, one_of}
-use Rattle.grain.proofs.Judged.{is_within, is_below, is_above}
+use Rattle.grain.proofs.Judged.{lies_within, is_below, is_above}
 
 -- a tick of a product divides the standard tick, the step and 1,000,000
 abbrev divides : ℕ → ℕ → Bool
@@ -92,7 +92,7 @@ module _ (t settlement limit : ℕ) (n : t ≡ 0 → ⊥) (small : t ≤ 2) (mos
       go true true a b =
           let low : max t (settlement - limit) ≤ x = leb-true _ _ a in
           let high : x ≤ min 1000000 (settlement + limit) = leb-true _ _ b in
-          rw (is_within t settlement limit x (omega arith) (omega arith))
+          rw (lies_within t settlement limit x (omega arith) (omega arith))
       go true false a b =
           let high : min 1000000 (settlement + limit) < x = leb-false _ _ b in
           let over : settlement + limit < x = omega (arith, f.most) in

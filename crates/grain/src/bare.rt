@@ -10,7 +10,7 @@ use crate::products::tick;
 use crate::refusals::{BAD_PRICE, NO_SUCH_PRODUCT, UNFIT_AMOUNT};
 use crate::verdicts::{ABOVE, BELOW, FREE, WITHIN};
 
-#[derive(Drop)]
+#[derive(Clone, Copy)]
 pub enum BareAnswer {
     Is(Verdict),
     NoSuchProduct,

@@ -6,13 +6,13 @@ ghost use Rattle.grain.specs.Prices.{max_price};
 use crate::prices::MAX_PRICE;
 
 // The prices that a limit allows, both ends included.
-#[derive(Drop)]
+#[derive(Clone, Copy)]
 pub struct Span {
     pub lowest: u32,
     pub highest: u32,
 }
 
-#[derive(Drop)]
+#[derive(Clone, Copy)]
 pub enum Verdict {
     // A spot contract has no limit, and so no span.
     Free,

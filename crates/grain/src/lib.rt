@@ -1,5 +1,7 @@
 // The arithmetic of CBOT daily price limits: products, ticks, amounts, dates, spot, the judgement of a price and the bare check.
 // It knows no book. Every function that is exported here is total: it has no `requires`, and answers every u32.
+#![tactic(auto)]
+
 mod amounts;
 mod bare;
 mod check;

@@ -10,7 +10,7 @@ use crate::prices::is_settlement;
 use crate::products::PRODUCTS;
 use crate::refusals::{BAD_PRICE, MISSHAPEN, NO_SUCH_DATE, NO_SUCH_PRODUCT, UNFIT_AMOUNT};
 
-#[derive(Drop)]
+#[derive(Clone, Copy)]
 pub enum ExpandedLimit {
     Is(u32),
     NoSuchProduct,
@@ -30,7 +30,7 @@ impl ExpandedLimit {
     }
 }
 
-#[derive(Drop)]
+#[derive(Clone, Copy)]
 pub enum SeasonLimits {
     Are { initial: u32, expanded: u32 },
     NoSuchProduct,
@@ -54,7 +54,7 @@ impl SeasonLimits {
     }
 }
 
-#[derive(Drop)]
+#[derive(Clone, Copy)]
 pub enum DateFacts {
     // The date's contract month, its season's number, and the calendar days of its month after it.
     On {

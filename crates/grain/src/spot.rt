@@ -3,7 +3,7 @@ ghost use Rattle.std.specs.Prelude.{◌≡◌};
 ghost use Rattle.grain.specs.Spot.{is_spot};
 
 // A date as spot is judged by it.
-#[derive(Drop)]
+#[derive(Clone, Copy)]
 pub struct TradeDate {
     // The contract month that the date is in.
     pub month: u32,

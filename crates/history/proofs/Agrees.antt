@@ -75,19 +75,19 @@ module _ (s : Start) (cs : List Call) (z : Book) (is : view z ≡ after s cs) wh
 pub stays_free : (s : Start) → founding_refusal s ≡ none → (cs ds : List Call) (y z : Book) → view y ≡ after s cs → view z ≡ after s (cs ++ ds)
     → (p q i j month x w : ℕ) (v : Verdict) → answer_in y p i month x ≡ checked Free → answer_in z q j month w ≡ checked v → v ≡ Free
 stays_free s accepted cs ds y z one other p q i j month x w v e h =
-    theorems.staysFree s accepted cs ds p q i j month x w v (answered s cs y one p i month x ∙ e) (answered s (cs ++ ds) z other q j month w ∙ h)
+    theorems.stays_free s accepted cs ds p q i j month x w v (answered s cs y one p i month x ∙ e) (answered s (cs ++ ds) z other q j month w ∙ h)
 
 -- ---- two books
 module _ (s : Start) (g : ℕ) (cs ds : List Call) (y z : Book) (one : view y ≡ after s cs) (other : view z ≡ after s ds)
     (same : SameFor g (history_of s cs) (history_of s ds)) where
   pub same_day : (view y).common ≡ (view z).common
-  same_day = rw (one, other) (theorems.sameDay s g cs ds same)
+  same_day = rw (one, other) (theorems.same_day s g cs ds same)
 
   pub same_group : group_at (view y) g ≡ group_at (view z) g
-  same_group = rw (one, other) (theorems.sameGroup s g cs ds same)
+  same_group = rw (one, other) (theorems.same_group s g cs ds same)
 
   pub same_checks : founding_refusal s ≡ none → (p size month price : ℕ) → group_of p ≡ g → answer_in y p size month price ≡ answer_in z p size month price
   same_checks accepted p size month price e =
       sym (answered s cs y one p size month price)
-      ∙ theorems.sameChecks s accepted g cs ds same p size month price e
+      ∙ theorems.same_checks s accepted g cs ds same p size month price e
       ∙ answered s ds z other p size month price

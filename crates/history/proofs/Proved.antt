@@ -61,7 +61,7 @@ coupled s cs rs z run p q i j m n x y v w e a b h k =
 stays_free : (s : Start) (cs ds : List Call) (rs ts : List Answer) (y z : Book) → Run s cs rs y → Run s (cs ++ ds) ts z
     → (p q i j month x w : ℕ) (v : Verdict) → Checks y p i month x (Is Free) → Checks z q j month w (Is v) → v ≡ Free
 stays_free s cs ds rs ts y z one other p q i j month x w v h k =
-    agrees.stays-free s (accepted s cs rs y one) cs ds y z (contents_are s cs rs y one) (contents_are s (cs ++ ds) ts z other) p q i j month x w v
+    agrees.stays_free s (accepted s cs rs y one) cs ds y z (contents_are s cs rs y one) (contents_are s (cs ++ ds) ts z other) p q i j month x w v
     (sym h.answer) (sym k.answer)
 
 -- ---- two lists
@@ -83,15 +83,15 @@ module _ (s : Start) (g : ℕ) (cs ds : List Call) (rs ts : List Answer) (y z : 
   histories = rw (← (history_is s cs rs y one), ← (history_is s ds ts z other)) same
 
   same_day : (view y).common ≡ (view z).common
-  same_day = agrees.same-day s g cs ds y z (contents_are s cs rs y one) (contents_are s ds ts z other) histories
+  same_day = agrees.same_day s g cs ds y z (contents_are s cs rs y one) (contents_are s ds ts z other) histories
 
   same_group : group_at (view y) g ≡ group_at (view z) g
-  same_group = agrees.same-group s g cs ds y z (contents_are s cs rs y one) (contents_are s ds ts z other) histories
+  same_group = agrees.same_group s g cs ds y z (contents_are s cs rs y one) (contents_are s ds ts z other) histories
 
   same_checks : (p size month price : ℕ) (v w : Checked) → group_of p ≡ g
       → Checks y p size month price v → Checks z p size month price w → v ≡ w
   same_checks p size month price v w e h k =
-      let both = agrees.same-checks s g cs ds y z (contents_are s cs rs y one) (contents_are s ds ts z other) histories (accepted s cs rs y one) p size month price e in
+      let both = agrees.same_checks s g cs ds y z (contents_are s cs rs y one) (contents_are s ds ts z other) histories (accepted s cs rs y one) p size month price e in
       sym (unchecked v) ∙ ap uncheck (h.answer ∙ both ∙ sym k.answer) ∙ unchecked w
 
 pub whole_history : WholeHistory
@@ -108,8 +108,8 @@ whole_history =
       resent =
           λ s cs rs z run p size month price v allowed h.
           agrees.resent s cs z (contents_are s cs rs z run) p size month price v allowed (sym h.answer);
-      staysFree = stays_free;
-      sameDay = same_day;
-      sameGroup = same_group;
-      sameChecks = same_checks;
+      stays_free = stays_free;
+      same_day = same_day;
+      same_group = same_group;
+      same_checks = same_checks;
     }

@@ -77,20 +77,20 @@ pub record WholeHistory : Type 0 where
       → (p size month price : ℕ) (v : Verdict) (allowed : Span) → Checks z p size month price (Is v) → span_in v ≡ some allowed
       → Resent (view z) p size month allowed
   -- a contract month that a check found free is free in every later check that is answered, of any product and price
-  pub staysFree :
+  pub stays_free :
       (s : Start) (cs ds : List Call) (rs ts : List Answer) (y z : Book) → Run s cs rs y → Run s (cs ++ ds) ts z
       → (p q i j month x w : ℕ) (v : Verdict) → Checks y p i month x (Is Free) → Checks z q j month w (Is v) → v ≡ Free
   -- two lists with the same edition and founding limits that agree on the accepted openings and ends and on one group's sheets of each day:
   -- the same day is open after both, or none
-  pub sameDay :
+  pub same_day :
       (s : Start) (g : ℕ) (cs ds : List Call) (rs ts : List Answer) (y z : Book)
       → Run s cs rs y → Run s ds ts z → SameFor g (kept cs rs) (kept ds ts) → (view y).common ≡ (view z).common
   -- that group is the same
-  pub sameGroup :
+  pub same_group :
       (s : Start) (g : ℕ) (cs ds : List Call) (rs ts : List Answer) (y z : Book)
       → Run s cs rs y → Run s ds ts z → SameFor g (kept cs rs) (kept ds ts) → group_at (view y) g ≡ group_at (view z) g
   -- and any price check on it gets the same answer or refusal number
-  pub sameChecks :
+  pub same_checks :
       (s : Start) (g : ℕ) (cs ds : List Call) (rs ts : List Answer) (y z : Book)
       → Run s cs rs y → Run s ds ts z → SameFor g (kept cs rs) (kept ds ts)
       → (p size month price : ℕ) (v w : Checked) → group_of p ≡ g

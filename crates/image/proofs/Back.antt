@@ -77,39 +77,39 @@ module _ (b : Book) (s : Shaped b) (rest : List ℕ) where
   abbrev from_last : List ℕ
   from_last = flat words_of_sheet b.last ++ rest
 
-  abbrev from-today : List ℕ
-  from-today = flat words_of_sheet b.today ++ from_last
+  abbrev from_today : List ℕ
+  from_today = flat words_of_sheet b.today ++ from_last
 
-  abbrev from-windows : List ℕ
-  from-windows = words_of_windows b.windows ++ from-today
+  abbrev from_windows : List ℕ
+  from_windows = words_of_windows b.windows ++ from_today
 
-  abbrev from-standings : List ℕ
-  from-standings = flat words_of_standing b.standings ++ from-windows
+  abbrev from_standings : List ℕ
+  from_standings = flat words_of_standing b.standings ++ from_windows
 
-  abbrev from-limits : List ℕ
-  from-limits = flat words_of_limit b.limits ++ from-standings
+  abbrev from_limits : List ℕ
+  from_limits = flat words_of_limit b.limits ++ from_standings
 
-  in_parts : ws ≡ words_of_head b.edition b.is_open b.day ++ from-limits
+  in_parts : ws ≡ words_of_head b.edition b.is_open b.day ++ from_limits
   unfolding words_of_book
   in_parts = simp append_assoc
 
-  at_limits : drop at.limits ws ≡ from-limits
+  at_limits : drop at.limits ws ≡ from_limits
   at_limits = ap (drop at.limits) in_parts
 
-  at_standings : drop at.standings ws ≡ from-standings
-  at_standings = after-part ws (flat words_of_limit b.limits) from-standings at.limits _ at_limits (limits_long b s)
+  at_standings : drop at.standings ws ≡ from_standings
+  at_standings = after-part ws (flat words_of_limit b.limits) from_standings at.limits _ at_limits (limits_long b s)
 
-  at_windows : drop at.windows ws ≡ from-windows
-  at_windows = after-part ws (flat words_of_standing b.standings) from-windows at.standings _ at_standings (standings_long b s)
+  at_windows : drop at.windows ws ≡ from_windows
+  at_windows = after-part ws (flat words_of_standing b.standings) from_windows at.standings _ at_standings (standings_long b s)
 
-  at_today : drop at.today ws ≡ from-today
-  at_today = after-part ws (words_of_windows b.windows) from-today at.windows _ at_windows (windows_long b.windows s.windows)
+  at_today : drop at.today ws ≡ from_today
+  at_today = after-part ws (words_of_windows b.windows) from_today at.windows _ at_windows (windows_long b.windows s.windows)
 
   at_last : drop at.last ws ≡ from_last
   at_last = after-part ws (flat words_of_sheet b.today) from_last at.today _ at_today (sheets_long b.today s.today)
 
   standings-part : part at.standings (group_count * standing_words) ws ≡ flat words_of_standing b.standings
-  standings-part = part_is ws (flat words_of_standing b.standings) from-windows at.standings _ at_standings (standings_long b s)
+  standings-part = part_is ws (flat words_of_standing b.standings) from_windows at.standings _ at_standings (standings_long b s)
 
   is_image_lem : is_image ws ≡ true
   unfolding is_image ◌and◌
@@ -120,7 +120,7 @@ module _ (b : Book) (s : Shaped b) (rest : List ℕ) where
   module _ (sound : is_sound (view b) ≡ true) where
     limits_back : chunks limit_words limit_of 8 (part at.limits (8 * limit_words) ws) ≡ b.limits
     limits_back =
-        rw (part_is ws (flat words_of_limit b.limits) from-standings at.limits _ at_limits (limits_long b s))
+        rw (part_is ws (flat words_of_limit b.limits) from_standings at.limits _ at_limits (limits_long b s))
         (chunks_back words_of_limit limit_words no_limit limit_of 8 b.limits s.limits (λ q h. refl) (λ q h. refl))
 
     standings_back : chunks standing_words standing_of group_count (part at.standings (group_count * standing_words) ws) ≡ b.standings
@@ -130,7 +130,7 @@ module _ (b : Book) (s : Shaped b) (rest : List ℕ) where
 
     windows_back : windows_of (part at.windows windows_words ws) ≡ b.windows
     windows_back =
-        rw (part_is ws (words_of_windows b.windows) from-today at.windows _ at_windows (windows_long b.windows s.windows))
+        rw (part_is ws (words_of_windows b.windows) from_today at.windows _ at_windows (windows_long b.windows s.windows))
         (windows_of_words b.windows s.windows (λ p h. size_fits b sound p h))
 
     today_back : chunks sheet_words sheet_of 8 (part at.today (8 * sheet_words) ws) ≡ b.today

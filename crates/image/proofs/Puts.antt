@@ -33,8 +33,8 @@ module _ (ws : List ℕ) (long : length ws ≡ at.words) where
       length-take-le 8 (drop at.renewed ws) fits
 
   module _ (b : Book) (now : List ℕ) (put : BookPut ws b now) where
-    abbrev book-begun : Begun ws (words_of_book b) at.renewed now
-    book-begun = record { long = book_long b put.shaped; is = put.words }
+    abbrev book_begun : Begun ws (words_of_book b) at.renewed now
+    book_begun = record { long = book_long b put.shaped; is = put.words }
 
     -- all that an image says of itself
     read_back : (rs es zs : List ℕ) → zs ≡ image_of b rs es → length rs ≡ 8 → length es ≡ group_count * event_words → Put b rs es zs
@@ -50,12 +50,12 @@ module _ (ws : List ℕ) (long : length ws ≡ at.words) where
     pub filed_put : Put b (renewed_in ws) (events_in ws) now
     filed_put =
         read_back (renewed_in ws) (events_in ws) now
-        ((begun_more ws (words_of_book b) at.renewed 8 now book-begun (omega arith)).is ∙ ap (λ r. (words_of_book b ++ renewed_in ws) ++ r) events_are ∙ append_assoc (words_of_book b) (renewed_in ws) (events_in ws))
+        ((begun_more ws (words_of_book b) at.renewed 8 now book_begun (omega arith)).is ∙ ap (λ r. (words_of_book b ++ renewed_in ws) ++ r) events_are ∙ append_assoc (words_of_book b) (renewed_in ws) (events_in ws))
         renewed_long events_long
 
     module _ (xs rs : List ℕ) (rs-are : xs ≡ rs) (rs-long : length rs ≡ 8) where
       opened_begun : Begun ws (words_of_book b ++ rs) at.events (put_mid at.renewed 8 now xs)
-      opened_begun = begun_next ws (words_of_book b) at.renewed 8 now xs rs book-begun rs-are rs-long
+      opened_begun = begun_next ws (words_of_book b) at.renewed 8 now xs rs book_begun rs-are rs-long
 
       pub opened_put : Put b rs (events_in ws) (put_mid at.renewed 8 now xs)
       opened_put =
@@ -74,7 +74,7 @@ module _ (ws : List ℕ) (long : length ws ≡ at.words) where
 
       pub ended_put : Put b (renewed_in ws) es (put_mid at.events (group_count * event_words) now ys)
       ended_put =
-          to_the_end (renewed_in ws) now renewed_long (begun_more ws (words_of_book b) at.renewed 8 now book-begun (omega arith))
+          to_the_end (renewed_in ws) now renewed_long (begun_more ws (words_of_book b) at.renewed 8 now book_begun (omega arith))
 
       pub founded_put : (xs rs : List ℕ) → xs ≡ rs → length rs ≡ 8
           → Put b rs es (put_mid at.events (group_count * event_words) (put_mid at.renewed 8 now xs) ys)

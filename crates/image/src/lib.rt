@@ -1,5 +1,7 @@
 // The image of a book: the book as 32-bit words, which a C program keeps and lends. Any words are an image or none.
 // A file for each part of an image has its words read and written. include/botskhela.h has the same layout as a struct.
+#![tactic(auto)]
+
 mod answer_words;
 mod book_words;
 mod counts;

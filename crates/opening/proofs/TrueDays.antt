@@ -35,7 +35,7 @@ is_a_day d t =
 pub opened_is : (d : Day) → is_true_day d ≡ true → opened_of d ≡ some d
 opened_is d t = rw (is_a_day d t)
 
-pub none-or_true : (b : Book) → is_sound (view b) ≡ true → NoneOrTrue b.day
-none-or_true b sound e =
+pub none_or_true : (b : Book) → is_sound (view b) ≡ true → NoneOrTrue b.day
+none_or_true b sound e =
     let is : opened_of b.day ≡ some b.day = rw e in
     true_day b sound b.day is

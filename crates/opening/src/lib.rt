@@ -1,4 +1,6 @@
 // The opening of a day.
+#![tactic(auto)]
+
 ghost use Rattle.std.specs.Prelude.{◌≡◌, true};
 ghost use Rattle.record.specs.Opening.{is_true_day};
 ghost use Rattle.record.specs.Record.{answer, next as nextState, opening as call, opened as answered};
@@ -20,7 +22,7 @@ use renewal::{limits_on, renewed_on, windows_on};
 use seasons::{is_next_season, is_other_season};
 use standings::standings_on;
 
-#[derive(Drop)]
+#[derive(Clone, Copy)]
 pub struct Opened {
     // 0, or the number of the refusal.
     pub refusal: u32,

@@ -36,10 +36,10 @@ module _ (r : Record) (p month price : ℕ) (w : BetweenLimits r p month price) 
   by_level tick expanded = within_by tick w.settlement _ price ∙ le-leb _ _ w.not_beyond_expanded
 
   -- what an accepted check answers
-  within-by_level : (size : ℕ) (v : Verdict) → (respond r (check p size month price)).answer ≡ checked v
+  within_by_level : (size : ℕ) (v : Verdict) → (respond r (check p size month price)).answer ≡ checked v
       → is_within v ≡ is_expanded (group_at r (group_of p)).level
   unfolding judged
-  within-by_level size v e =
+  within_by_level size v e =
       let is = (passed r p size month price v e).is in
       rw (← is) (rw (w.not_spot, w.is_listed) (by_level (tick_of p size) (group_at r (group_of p)).level))
 
@@ -47,6 +47,6 @@ pub coupled : (r : Record) (p q i j m n x y : ℕ) (v w : Verdict) → group_of 
     → BetweenLimits r p m x → BetweenLimits r q n y
     → (respond r (check p i m x)).answer ≡ checked v → (respond r (check q j n y)).answer ≡ checked w → is_within v ≡ is_within w
 coupled r p q i j m n x y v w e a b f h =
-    within-by_level r p m x a i v f
+    within_by_level r p m x a i v f
     ∙ ap (λ (g : ℕ). is_expanded (group_at r g).level) e
-    ∙ sym (within-by_level r q n y b j w h)
+    ∙ sym (within_by_level r q n y b j w h)

@@ -6,7 +6,7 @@ use mathlib.Core.List.{List, [], ◌∷◌, map}
 use mathlib.Core.Option.{Option, some, none}
 use Rattle.grain.specs.Lists.{every, any}
 use Rattle.grain.proofs.Tests.{and_left, and_right, both}
-use Rattle.record.specs.Choices.{keep, concatMap}
+use Rattle.record.specs.Choices.{keep, concat_map}
 use Rattle.record.specs.State.{Level, initial, expanded, Group, Common, Record}
 use Rattle.record.specs.Move.{Move}
 use Rattle.record.specs.Edition.{Conditions, conditions_of}
@@ -46,12 +46,12 @@ keeps_edition_lem s cs = edition-kept (founded s) cs
 -- ---- a group with no mark is not raised
 unmarked_event : (k : Conditions) (l : Level) (mss : List (List Move)) → is_raised (event_of k l false mss) ≡ false
 unfolding event_of
-unmarked_event k initial mss = go (leading (concatMap (triggering k) mss))
+unmarked_event k initial mss = go (leading (concat_map (triggering k) mss))
   where
     go : (o : Option Lead) → is_raised (led_by o Triggered Quiet) ≡ false
     go none = refl
     go (some l) = refl
-unmarked_event k expanded mss = go (leading (concatMap (keep k.is_holding) mss))
+unmarked_event k expanded mss = go (leading (concat_map (keep k.is_holding) mss))
   where
     go : (o : Option Lead) → is_raised (led_by o Held Reverted) ≡ false
     go none = refl

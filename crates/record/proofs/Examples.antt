@@ -12,7 +12,7 @@ use Rattle.grain.specs.Dates.{is_leap, month_length, is_date, contract_month, se
 use Rattle.grain.specs.Spot.{is_spot}
 use Rattle.grain.specs.Check.{span_by, verdict}
 use Rattle.grain.specs.declared.check.Span.{Span}
-use Rattle.record.specs.Choices.{concatMap}
+use Rattle.record.specs.Choices.{concat_map}
 use Rattle.record.specs.State.{Day, Level, Product, Group, Record, with_products, with_window, group_table, group_at}
 use Rattle.record.specs.Founding.{Start, are_fit, founding_refusal, found_product, found_group, founded}
 use Rattle.record.specs.Opening.{is_true_day, opening_tests, is_renewed, open_product, has_new_limits, open_group}
@@ -295,7 +295,7 @@ pub record Renewal : Type 0 where
   pub windows : List (List ℕ)
 
 abbrev products_of : Record → List Product
-products_of r = concatMap (λ g. g.products) r.groups
+products_of r = concat_map (λ g. g.products) r.groups
 
 abbrev pub windows_of : Record → List (List ℕ)
 windows_of r = map (λ (q : Product). q.window) (products_of r)

@@ -46,8 +46,8 @@ theorems =
       together = λ s cs. together (after s cs);
       coupled = λ s cs. coupled (after s cs);
       resent = λ s cs. resent (after s cs);
-      staysFree = stays_free;
-      sameDay = same_day;
-      sameGroup = same_group;
-      sameChecks = same_checks;
+      stays_free = stays_free;
+      same_day = same_day;
+      same_group = same_group;
+      same_checks = same_checks;
     }

@@ -15,7 +15,7 @@ module _ (d : Day) (t : is_true_day d ≡ true) where
   true_date = &&-left (is_date d.year d.month d.day) (leb d.left (days_remaining d.year d.month d.day)) t
 
   pub valid : dates.ValidDate d.year d.month d.day
-  valid = dates.valid-date d.year d.month d.day true_date
+  valid = dates.valid_date d.year d.month d.day true_date
 
   pub day_small : d.day ≤ 31
-  day_small = dates.day-small d.year d.month d.day valid
+  day_small = dates.day_small d.year d.month d.day valid

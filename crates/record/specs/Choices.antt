@@ -17,6 +17,6 @@ module _ {A : Type 0} where
   or_else (some a) d = a
 
 module _ {A B : Type 0} where
-  abbrev pub concatMap : (A → List B) → List A → List B
-  concatMap f [] = []
-  concatMap f (a ∷ l) = f a ++ concatMap f l
+  abbrev pub concat_map : (A → List B) → List A → List B
+  concat_map f [] = []
+  concat_map f (a ∷ l) = f a ++ concat_map f l

@@ -3,7 +3,7 @@ use Rattle.std.specs.Prelude.{Bool, true, false, ◌&&◌, ◌||◌, cond, List,
 use Rattle.std.proofs.Math.Option.{Option, some, none}
 use Rattle.grain.specs.Lists.{any}
 use Rattle.grain.specs.Amounts.{expanded_of}
-use Rattle.record.specs.Choices.{keep, concatMap}
+use Rattle.record.specs.Choices.{keep, concat_map}
 use Rattle.record.specs.State.{Day, Level, initial, expanded, Product, Group, Common, with_level, with_mark, with_products, with_limits, with_window, with_sheets, day_of, sheet_or}
 use Rattle.record.specs.Window.{window_after}
 use Rattle.record.specs.Move.{Move, group_moves, is_trigger, is_at_expanded}
@@ -37,15 +37,15 @@ triggering k ms = let l = keep is_trigger ms in cond (k.are_enough l) l []
 
 -- those that raise: exactly E, where the ended day before is marked
 abbrev pub raising : Bool → List (List Move) → List Move
-raising true mss = concatMap (keep is_at_expanded) mss
+raising true mss = concat_map (keep is_at_expanded) mss
 raising false mss = []
 
 -- from the moves of each product: an event's candidates are found in each, and are led together
 unfoldable pub event_of : Conditions → Level → Bool → List (List Move) → Event
-event_of k initial mark mss = led_by (leading (concatMap (triggering k) mss)) Triggered Quiet
+event_of k initial mark mss = led_by (leading (concat_map (triggering k) mss)) Triggered Quiet
 event_of k expanded mark mss =
     led_by (leading (raising mark mss)) Raised
-    (led_by (leading (concatMap (keep k.is_holding) mss)) Held Reverted)
+    (led_by (leading (concat_map (keep k.is_holding) mss)) Held Reverted)
 
 unfoldable pub group_event : Common → Group → Event
 group_event c g = event_of (conditions_of c.edition) g.level g.mark (group_moves (day_of c) g)

@@ -5,7 +5,7 @@ use Rattle.grain.specs.Lists.{any}
 use Rattle.grain.specs.Products.{is_product}
 use Rattle.grain.specs.Refusals.{no_such_product}
 use Rattle.grain.specs.declared.check.Verdict.{Verdict}
-use Rattle.record.specs.Choices.{concatMap, is_some}
+use Rattle.record.specs.Choices.{concat_map, is_some}
 use Rattle.record.specs.Refusals.{Test, when, first, unsound, wrong_phase, sheet_outstanding}
 use Rattle.record.specs.State.{Day, Group, Common, Record, with_opened, with_is_open, group_of, group_at}
 use Rattle.record.specs.Opening.{opening_tests, is_renewed, open_group}
@@ -63,7 +63,7 @@ terms_refusal r p size = refusal_by r (terms_tests r.common p size)
 
 -- the answer of an accepted call
 unfoldable pub answer : Record → Call → Answer
-answer r (opening d) = opened (concatMap (λ g. map (is_renewed r.common d) g.products) r.groups)
+answer r (opening d) = opened (concat_map (λ g. map (is_renewed r.common d) g.products) r.groups)
 answer r (sheet p ms ss) = filed
 answer r end = ended (map (group_event r.common) r.groups)
 answer r (check p size month price) = checked (judged (terms_in r p size) month price)

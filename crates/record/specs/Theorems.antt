@@ -112,19 +112,19 @@ pub record Theorems : Type 0 where
       → check_after s cs p size month price ≡ checked v → span_in v ≡ some allowed → Resent (after s cs) p size month allowed
   -- a contract month that a check found free is free in every later check that is answered, of any product and price: the left falls
   -- within a month, so that a month once spot stays so
-  pub staysFree :
+  pub stays_free :
       (s : Start) → founding_refusal s ≡ none → (cs ds : List Call) (p q i j month x y : ℕ) (v : Verdict)
       → check_after s cs p i month x ≡ checked Free → check_after s (cs ++ ds) q j month y ≡ checked v → v ≡ Free
   -- two lists with the same openings and ends accepted and the same sheets of one group on each day: the same day is open after both, or none
-  pub sameDay :
+  pub same_day :
       (s : Start) (g : ℕ) (cs ds : List Call) → SameFor g (history_of s cs) (history_of s ds)
       → (after s cs).common ≡ (after s ds).common
   -- that group has the same level, mark, limits, windows and sheets
-  pub sameGroup :
+  pub same_group :
       (s : Start) (g : ℕ) (cs ds : List Call) → SameFor g (history_of s cs) (history_of s ds)
       → group_at (after s cs) g ≡ group_at (after s ds) g
   -- and any price check on it gets the same answer or refusal number
-  pub sameChecks :
+  pub same_checks :
       (s : Start) → founding_refusal s ≡ none → (g : ℕ) (cs ds : List Call)
       → SameFor g (history_of s cs) (history_of s ds) → (p size month price : ℕ) → group_of p ≡ g
       → check_after s cs p size month price ≡ check_after s ds p size month price

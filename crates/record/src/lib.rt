@@ -1,8 +1,10 @@
 // What the Record and a book both speak of. The Record itself is definitions and theorems: specs/ and proofs/.
+#![tactic(auto)]
+
 pub mod refusals;
 
 // A date with its left: the business days of its month after it.
-#[derive(Drop)]
+#[derive(Clone, Copy)]
 pub struct Day {
     pub year: u32,
     pub month: u32,
@@ -13,21 +15,21 @@ pub struct Day {
 // How many contracts a sheet can have.
 pub const MAX_CONTRACTS: usize = 16;
 
-#[derive(Drop)]
+#[derive(Clone, Copy)]
 pub struct Contract {
     pub month: u32,
     pub settlement: u32,
 }
 
 // The leading contract of an event.
-#[derive(Drop)]
+#[derive(Clone, Copy)]
 pub struct Lead {
     pub month: u32,
     pub product: u32,
 }
 
 // What the end of a day is for a group.
-#[derive(Drop)]
+#[derive(Clone, Copy)]
 pub enum Event {
     Quiet,
     Triggered(Lead),
@@ -40,7 +42,7 @@ pub enum Event {
 pub const GROUP_COUNT: usize = 5;
 
 // An event as an element of an array: of what an end answers, one for each group.
-#[derive(Drop)]
+#[derive(Clone, Copy)]
 pub struct GroupEvent {
     pub event: Event,
 }

@@ -3,7 +3,7 @@ use crate::line::{Call, Entries, Line, Numbers, numbers_of, with_word};
 use crate::words::Word;
 
 // A call after which the book may be another. A sheet has so many months and settlements; ENTRIES stands for any number above MAX_CONTRACTS.
-#[derive(Drop)]
+#[derive(Clone, Copy)]
 pub enum Change {
     Found,
     Open,
@@ -12,7 +12,7 @@ pub enum Change {
 }
 
 // A line that leaves the book as it is.
-#[derive(Drop)]
+#[derive(Clone, Copy)]
 pub enum Question {
     // It is blank or a remark.
     Nothing,
@@ -23,7 +23,7 @@ pub enum Question {
 }
 
 // What a whole line asks.
-#[derive(Drop)]
+#[derive(Clone, Copy)]
 pub enum Asked {
     Change(Change),
     Question(Question),

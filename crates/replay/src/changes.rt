@@ -5,7 +5,7 @@ use crate::text::{Buffer, put, put_events, put_refusal, put_renewed};
 use book::Book;
 use grain::PRODUCT_COUNT;
 
-#[derive(Drop)]
+#[derive(Clone, Copy)]
 pub struct State {
     pub founded: bool,
     // Of no account where none was founded.

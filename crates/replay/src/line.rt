@@ -15,7 +15,7 @@ pub const ENTRIES: usize = MAX_CONTRACTS + 1;
 pub type Entries = [u32; ENTRIES];
 
 // All calls but a sheet: a name, and so many numbers.
-#[derive(Drop)]
+#[derive(Clone, Copy)]
 pub enum Call {
     Found,
     Open,
@@ -26,7 +26,7 @@ pub enum Call {
 }
 
 // What the words so far are.
-#[derive(Drop)]
+#[derive(Clone, Copy)]
 pub enum Line {
     Blank,
     Remark,

@@ -1,4 +1,6 @@
 // Reads a history of calls from standard input and answers it line by line on standard output, both in blocks.
+#![tactic(auto)]
+
 use crate::line::ENTRIES;
 use libc::STDIN_FILENO;
 
@@ -17,7 +19,7 @@ use text::Buffer;
 use words::Word;
 
 // Where the reading stands: the state, and what there is of a line and of a word in it.
-#[derive(Drop)]
+#[derive(Clone, Copy)]
 struct Reading {
     state: State,
     line: Line,
@@ -72,7 +74,7 @@ fn read_block(
     Reading { state, line, word }
 }
 
-#[derive(Drop)]
+#[derive(Clone, Copy)]
 struct Went {
     reading: Reading,
     on: bool,

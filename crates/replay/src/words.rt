@@ -1,6 +1,6 @@
 // A word of a line, byte by byte.
 
-#[derive(Drop)]
+#[derive(Clone, Copy)]
 pub enum Word {
     Empty,
     Number(u32),

@@ -16,7 +16,7 @@ const DATES: usize = 2;
 
 const SETTLEMENTS: usize = DATES + WINDOW_LENGTH;
 
-#[derive(Drop)]
+#[derive(Clone, Copy)]
 pub enum Line {
     Limits {
         product: u32,

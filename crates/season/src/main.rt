@@ -1,4 +1,6 @@
 // Reads a season file from standard input and writes the product with its season limits, or the refusal.
+#![tactic(auto)]
+
 ghost use Rattle.season.specs.SeasonFile.{season_line};
 ghost use Rattle.season.specs.LineText.{line_text, Holds};
 

@@ -7,7 +7,7 @@ ghost use Rattle.season.specs.LineText.{decimal, line_text, text_in, Holds};
 use crate::file::Line;
 
 // The text is the first `len` bytes. The longest has three numbers of ten digits, two spaces and a newline.
-#[derive(Drop)]
+#[derive(Clone, Copy)]
 pub struct Text {
     pub bytes: [u8; 33],
     pub len: usize,

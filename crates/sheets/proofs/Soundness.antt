@@ -15,9 +15,9 @@ pub entries_count : (s : Sheet) → length s.contracts ≡ 16 → s.len ≤ 16 �
 unfolding entries_of
 entries_count s long l = length-take-le s.len s.contracts (omega arith)
 
-pub sound_by-tests : (p : ℕ) (s : Sheet) → length s.contracts ≡ 16 → (s.len ≡ 0 → ⊥) → s.len ≤ 16
+pub sound_by_tests : (p : ℕ) (s : Sheet) → length s.contracts ≡ 16 → (s.len ≡ 0 → ⊥) → s.len ≤ 16
     → is_sound_sheet p (sheet_in s) ≡ are_sound_contracts p (entries_of s)
 unfolding sheet_in is_sound_sheet ◌and◌
-sound_by-tests p s long n l =
+sound_by_tests p s long n l =
     rw
     (ne_eqb s.len 0 n, counted s l, entries_count s long l, le-leb 1 s.len (omega arith), le-leb s.len 16 l)

@@ -6,7 +6,7 @@ ghost use Rattle.sheets.specs.Sheets.{entries_of, listed_as};
 use crate::Sheet;
 use record::MAX_CONTRACTS;
 
-#[derive(Drop)]
+#[derive(Clone, Copy)]
 pub enum Listed {
     At(u32),
     Nothing,

@@ -8,7 +8,7 @@ use borrow.Author.Tests.{ne_eqb}
 use Rattle.grain.specs.Refusals.{unsound}
 use Rattle.tally.specs.declared.Tally.{Tally}
 use Rattle.tally.specs.Tally.{tally_full, is_sound_tally, is_full, tally_refusal, counted}
-use Rattle.tally.specs.Through.{TalliedCall, Through, done, asks, no_counts, talliedAnswer, tallyAfter, answersThrough, tallyThrough, Counts, Refusing, ThroughOneTally}
+use Rattle.tally.specs.Through.{TalliedCall, Through, done, asks, no_counts, tallied_answer, tally_after, answers_through, tally_through, Counts, Refusing, ThroughOneTally}
 use Rattle.tally.proofs.Totals.{Lawful, totals}
 
 from_zero : (k m : ℕ) → k ≡ 0 + m → k ≡ m
@@ -23,15 +23,15 @@ unfolding tally_refusal
 full_refuses t e f = rw (e, f)
 
 module _ (k : TalliedCall) (law : Lawful k) where
-  answered : {t z : Tally} {cs : List k.Ask} {rs : List k.Answer} → Through k t cs rs z → rs ≡ answersThrough k t cs
-  unfolding answersThrough
+  answered : {t z : Tally} {cs : List k.Ask} {rs : List k.Answer} → Through k t cs rs z → rs ≡ answers_through k t cs
+  unfolding answers_through
   answered done = refl
   answered {t} (asks {u = u} {c = c} {r = r} p later) = rw (← (law.tally t c r u p)) (cc (law.answers t c r u p, answered later))
 
-  tally_after : {t z : Tally} {cs : List k.Ask} {rs : List k.Answer} → Through k t cs rs z → z ≡ tallyThrough k t cs
-  unfolding tallyThrough
-  tally_after done = refl
-  tally_after {t} (asks {u = u} {c = c} {r = r} p later) = rw (← (law.tally t c r u p)) (tally_after later)
+  after_is : {t z : Tally} {cs : List k.Ask} {rs : List k.Answer} → Through k t cs rs z → z ≡ tally_through k t cs
+  unfolding tally_through
+  after_is done = refl
+  after_is {t} (asks {u = u} {c = c} {r = r} p later) = rw (← (law.tally t c r u p)) (after_is later)
 
   counts : (cs : List k.Ask) (rs : List k.Answer) (z : Tally) → Through k no_counts cs rs z → Counts k rs z
   unfolding is_sound_tally
@@ -49,7 +49,7 @@ module _ (k : TalliedCall) (law : Lawful k) where
   -- a tally that refuses with a number
   refusing : (n : ℕ) → (n ≡ 0 → ⊥) → {t z : Tally} {cs : List k.Ask} {rs : List k.Answer} → tally_refusal t ≡ n
       → Through k t cs rs z → Refusing k t n cs rs z
-  unfolding talliedAnswer tallyAfter counted
+  unfolding tallied_answer tally_after counted
   refusing n f e done = record { answers = refl; tally = refl }
   refusing n f {t} e (asks {u = u} {c = c} {r = r} p later) =
       let same : u ≡ t = rw (e, ne_eqb n 0 f) at (law.tally t c r u p) in
@@ -70,8 +70,8 @@ module _ (k : TalliedCall) (law : Lawful k) where
       go true e = sym e ∙ sym (ap is_full (by_full_lem s e p).tally) ∙ f
       go false e = refl
 
-  answer-kept : (t : Tally) (c : k.Ask) → is_sound_tally t ≡ true → is_full t ≡ false → talliedAnswer k t c ≡ k.answer_to c
-  unfolding talliedAnswer tally_refusal
+  answer-kept : (t : Tally) (c : k.Ask) → is_sound_tally t ≡ true → is_full t ≡ false → tallied_answer k t c ≡ k.answer_to c
+  unfolding tallied_answer tally_refusal
   answer-kept t c s f = rw (s, f)
 
   until_full_lem : {t z : Tally} {cs : List k.Ask} {rs : List k.Answer} → is_sound_tally t ≡ true → is_full z ≡ false
@@ -85,7 +85,7 @@ module _ (k : TalliedCall) (law : Lawful k) where
   through_one_tally =
       record {
         answers = λ t cs rs z p. answered p;
-        tally = λ t cs rs z p. tally_after p;
+        tally = λ t cs rs z p. after_is p;
         counts = counts;
         stays_sound = λ t cs rs z s p. (totals k law s p).sound;
         until_full = λ t cs rs z s f p. until_full_lem s f p;

@@ -10,12 +10,12 @@ use Rattle.tally.specs.declared.Tally.{Tally}
 use Rattle.tally.specs.declared.Kind.{Kind}
 use Rattle.tally.specs.declared.Kind.TheVariants.{Free, Within, Below, Above, Refused}
 use Rattle.tally.specs.Tally.{tally_full, sum_of, is_sound_tally, is_full, tally_refusal, one_more, counted}
-use Rattle.tally.specs.Through.{TalliedCall, Through, done, asks, howMany, same_kind, talliedAnswer, tallyAfter, isCounted, is_of}
+use Rattle.tally.specs.Through.{TalliedCall, Through, done, asks, how_many, same_kind, tallied_answer, tally_after, is_counted, is_of}
 
 -- what the theorem asks of a call: its contract, and that no check answers 15 by itself
 pub record Lawful (k : TalliedCall) : Type 0 where
-  pub answers : (t : Tally) (c : k.Ask) (r : k.Answer) (u : Tally) → k.Promise t c r u → r ≡ talliedAnswer k t c
-  pub tally : (t : Tally) (c : k.Ask) (r : k.Answer) (u : Tally) → k.Promise t c r u → u ≡ tallyAfter k t c
+  pub answers : (t : Tally) (c : k.Ask) (r : k.Answer) (u : Tally) → k.Promise t c r u → r ≡ tallied_answer k t c
+  pub tally : (t : Tally) (c : k.Ask) (r : k.Answer) (u : Tally) → k.Promise t c r u → u ≡ tally_after k t c
   pub not_full : (c : k.Ask) → k.is_tally_full (k.answer_to c) ≡ false
   pub says_full : k.is_tally_full (k.refused tally_full) ≡ true
 
@@ -54,11 +54,11 @@ after_one n m k i j e f = omega arith
 module _ (k : TalliedCall) (law : Lawful k) where
   -- what one check through a sound tally adds, and that the tally stays sound
   record Added (t : Tally) (a : k.Answer) (u : Tally) : Type 0 where
-    pub adds : Adds t (isCounted k a) (k.kind_of a) u
+    pub adds : Adds t (is_counted k a) (k.kind_of a) u
     pub sound : u.asked ≡ sum_of u
 
-  added : (t : Tally) (c : k.Ask) → is_sound_tally t ≡ true → Added t (talliedAnswer k t c) (tallyAfter k t c)
-  unfolding talliedAnswer tallyAfter counted tally_refusal is_sound_tally
+  added : (t : Tally) (c : k.Ask) → is_sound_tally t ≡ true → Added t (tallied_answer k t c) (tally_after k t c)
+  unfolding tallied_answer tally_after counted tally_refusal is_sound_tally
   added t c s = rw s (go (is_full t))
     where
       sum : t.asked ≡ sum_of t
@@ -72,17 +72,17 @@ module _ (k : TalliedCall) (law : Lawful k) where
 
   -- what a list of answers adds
   pub record Totals (t : Tally) (rs : List k.Answer) (z : Tally) : Type 0 where
-    pub asked : z.asked ≡ t.asked + howMany (isCounted k) rs
-    pub free : z.free ≡ t.free + howMany (is_of k Free) rs
-    pub within : z.within ≡ t.within + howMany (is_of k Within) rs
-    pub below : z.below ≡ t.below + howMany (is_of k Below) rs
-    pub above : z.above ≡ t.above + howMany (is_of k Above) rs
-    pub refused : z.refused ≡ t.refused + howMany (is_of k Refused) rs
+    pub asked : z.asked ≡ t.asked + how_many (is_counted k) rs
+    pub free : z.free ≡ t.free + how_many (is_of k Free) rs
+    pub within : z.within ≡ t.within + how_many (is_of k Within) rs
+    pub below : z.below ≡ t.below + how_many (is_of k Below) rs
+    pub above : z.above ≡ t.above + how_many (is_of k Above) rs
+    pub refused : z.refused ≡ t.refused + how_many (is_of k Refused) rs
     pub sound : is_sound_tally z ≡ true
 
-  one_more : {t u z : Tally} {a : k.Answer} {rs : List k.Answer} → Added t a u → Totals u rs z → Totals t (a ∷ rs) z
-  unfolding howMany
-  one_more {t} {u} {z} {a} {rs} d n =
+  one_more_of : {t u z : Tally} {a : k.Answer} {rs : List k.Answer} → Added t a u → Totals u rs z → Totals t (a ∷ rs) z
+  unfolding how_many
+  one_more_of {t} {u} {z} {a} {rs} d n =
       record {
         asked = after_one t.asked u.asked z.asked _ _ d.adds.asked n.asked;
         free = after_one t.free u.free z.free _ _ d.adds.free n.free;
@@ -94,9 +94,9 @@ module _ (k : TalliedCall) (law : Lawful k) where
       }
 
   pub totals : {t z : Tally} {cs : List k.Ask} {rs : List k.Answer} → is_sound_tally t ≡ true → Through k t cs rs z → Totals t rs z
-  unfolding howMany is_sound_tally
+  unfolding how_many is_sound_tally
   totals s done =
       record { asked = omega arith; free = omega arith; within = omega arith; below = omega arith; above = omega arith; refused = omega arith; sound = s }
   totals {t} s (asks {u = u} {c = c} {r = r} p later) =
       let d : Added t r u = rw (law.answers t c r u p, law.tally t c r u p) (added t c s) in
-      one_more d (totals (eq-eqb _ _ d.sound) later)
+      one_more_of d (totals (eq-eqb _ _ d.sound) later)

@@ -33,9 +33,9 @@ no_counts = record { asked = 0; free = 0; within = 0; below = 0; above = 0; refu
 
 module _ {A : Type 0} where
   -- the number of those that pass a test
-  unfoldable pub howMany : (A → Bool) → List A → ℕ
-  howMany f [] = 0
-  howMany f (a ∷ l) = cond (f a) 1 0 + howMany f l
+  unfoldable pub how_many : (A → Bool) → List A → ℕ
+  how_many f [] = 0
+  how_many f (a ∷ l) = cond (f a) 1 0 + how_many f l
 
 -- only to compare two kinds
 abbrev pub kind_number : Kind → ℕ
@@ -50,34 +50,34 @@ same_kind j k = eqb (kind_number j) (kind_number k)
 
 module _ (k : TalliedCall) where
   -- what a list of checks answers and leaves
-  unfoldable pub talliedAnswer : Tally → k.Ask → k.Answer
-  talliedAnswer t c = cond (takes t) (k.answer_to c) (k.refused (tally_refusal t))
+  unfoldable pub tallied_answer : Tally → k.Ask → k.Answer
+  tallied_answer t c = cond (takes t) (k.answer_to c) (k.refused (tally_refusal t))
 
-  unfoldable pub tallyAfter : Tally → k.Ask → Tally
-  tallyAfter t c = counted t (k.kind_of (k.answer_to c))
+  unfoldable pub tally_after : Tally → k.Ask → Tally
+  tally_after t c = counted t (k.kind_of (k.answer_to c))
 
-  unfoldable pub answersThrough : Tally → List k.Ask → List k.Answer
-  answersThrough t [] = []
-  answersThrough t (c ∷ cs) = talliedAnswer t c ∷ answersThrough (tallyAfter t c) cs
+  unfoldable pub answers_through : Tally → List k.Ask → List k.Answer
+  answers_through t [] = []
+  answers_through t (c ∷ cs) = tallied_answer t c ∷ answers_through (tally_after t c) cs
 
-  unfoldable pub tallyThrough : Tally → List k.Ask → Tally
-  tallyThrough t [] = t
-  tallyThrough t (c ∷ cs) = tallyThrough (tallyAfter t c) cs
+  unfoldable pub tally_through : Tally → List k.Ask → Tally
+  tally_through t [] = t
+  tally_through t (c ∷ cs) = tally_through (tally_after t c) cs
 
-  abbrev pub isCounted : k.Answer → Bool
-  isCounted a = not (k.is_tally_full a)
+  abbrev pub is_counted : k.Answer → Bool
+  is_counted a = not (k.is_tally_full a)
 
   abbrev pub is_of : Kind → k.Answer → Bool
-  is_of j a = isCounted a && same_kind j (k.kind_of a)
+  is_of j a = is_counted a && same_kind j (k.kind_of a)
 
   -- each count is the number of the answers of its kind
   pub record Counts (rs : List k.Answer) (z : Tally) : Type 0 where
-    pub asked : z.asked ≡ howMany isCounted rs
-    pub free : z.free ≡ howMany (is_of Free) rs
-    pub within : z.within ≡ howMany (is_of Within) rs
-    pub below : z.below ≡ howMany (is_of Below) rs
-    pub above : z.above ≡ howMany (is_of Above) rs
-    pub refused : z.refused ≡ howMany (is_of Refused) rs
+    pub asked : z.asked ≡ how_many is_counted rs
+    pub free : z.free ≡ how_many (is_of Free) rs
+    pub within : z.within ≡ how_many (is_of Within) rs
+    pub below : z.below ≡ how_many (is_of Below) rs
+    pub above : z.above ≡ how_many (is_of Above) rs
+    pub refused : z.refused ≡ how_many (is_of Refused) rs
 
   -- a tally that refuses: every answer is the number, and the tally stays as it is
   pub record Refusing (t : Tally) (n : ℕ) (cs : List k.Ask) (rs : List k.Answer) (z : Tally) : Type 0 where
@@ -86,8 +86,8 @@ module _ (k : TalliedCall) where
 
   pub record ThroughOneTally : Type 0 where
     -- every answer and the tally are fixed by what is asked and the tally before
-    pub answers : (t : Tally) (cs : List k.Ask) (rs : List k.Answer) (z : Tally) → Through k t cs rs z → rs ≡ answersThrough t cs
-    pub tally : (t : Tally) (cs : List k.Ask) (rs : List k.Answer) (z : Tally) → Through k t cs rs z → z ≡ tallyThrough t cs
+    pub answers : (t : Tally) (cs : List k.Ask) (rs : List k.Answer) (z : Tally) → Through k t cs rs z → rs ≡ answers_through t cs
+    pub tally : (t : Tally) (cs : List k.Ask) (rs : List k.Answer) (z : Tally) → Through k t cs rs z → z ≡ tally_through t cs
     -- a tally that began with six zeros
     pub counts : (cs : List k.Ask) (rs : List k.Answer) (z : Tally) → Through k no_counts cs rs z → Counts rs z
     pub stays_sound : (t : Tally) (cs : List k.Ask) (rs : List k.Answer) (z : Tally) → is_sound_tally t ≡ true

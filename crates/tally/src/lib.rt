@@ -1,4 +1,6 @@
 // A gateway's tally: six counts of the checks through it, lent by &mut. It knows no book.
+#![tactic(auto)]
+
 ghost use Rattle.std.specs.Prelude.{◌≡◌};
 ghost use Rattle.tally.specs.Tally.{kind_of_verdict};
 
@@ -11,7 +13,7 @@ pub use counts::{count, counted, refusal};
 // The refusal of a check through a full tally.
 pub const TALLY_FULL: u32 = 15;
 
-#[derive(Drop)]
+#[derive(Clone, Copy)]
 pub struct Tally {
     // The number of checks; the sum of the other five.
     pub asked: u32,
@@ -23,7 +25,7 @@ pub struct Tally {
 }
 
 // What a check is counted as.
-#[derive(Drop)]
+#[derive(Clone, Copy)]
 pub enum Kind {
     Free,
     Within,

@@ -1,4 +1,6 @@
 // The check on a book through a gateway's tally.
+#![tactic(auto)]
+
 ghost use Rattle.std.specs.Prelude.{◌≡◌, cond};
 ghost use Rattle.record.specs.Record.{refused};
 ghost use Rattle.checking.specs.Checks.{checked_as};

@@ -1,5 +1,7 @@
 // The windows of the eight products: the last 45 collected settlements of each, in one flat array with eight sizes.
 // Every function here takes any windows and any number for a product; a number that is no product has no settlements.
+#![tactic(auto)]
+
 ghost use Rattle.std.specs.Prelude.{◌≡◌, [], ◌∷◌, ◌++◌, eqb, length, drop, ℕ, ◌-◌, ◌<◌};
 ghost use Rattle.grain.specs.Lists.{every};
 ghost use Rattle.grain.specs.Prices.{is_on_tick};
@@ -13,7 +15,7 @@ use grain::{PRODUCT_COUNT, SeasonLimits, WINDOW_LENGTH};
 // The settlements of a full window but the oldest.
 const BUT_OLDEST: usize = WINDOW_LENGTH - 1;
 
-#[derive(Drop)]
+#[derive(Clone, Copy)]
 pub struct Windows {
     // Product p has the places from WINDOW_LENGTH × p on, oldest first: 8 × 45 in all, which the rule names.
     pub settlements: [u32; 360],

@@ -6,7 +6,7 @@ ghost use Rattle.record.specs.State.{max_contracts};
 ghost use Rattle.sheets.specs.Sheets.{contracts_of};
 ghost use Rattle.ending.specs.declared.lead.Condition.TheVariants.{TwoAtInitial};
 ghost use Rattle.ending.specs.Lead.{Readable};
-ghost use Rattle.ending.specs.Search.{countAt, more_after, are_enough_in, AreEnough};
+ghost use Rattle.ending.specs.Search.{count_at, more_after, are_enough_in, AreEnough};
 
 use crate::lead::Condition;
 use book::Book;
@@ -17,7 +17,7 @@ use sheets::{Listed, Sheet};
 // What a contract counts, where `more` of its product's non-spot contracts can trigger.
 fn count_at(product: u32, initial: u32, c: Contract, last: Sheet, date: TradeDate, more: u32) -> u32
     requires { last.len ≤ max_contracts }
-    ensures { result ≡ countAt (is_spot date) product initial (contracts_of last) more c }
+    ensures { result ≡ count_at (is_spot date) product initial (contracts_of last) more c }
 {
     if date.is_spot(c.month) {
         return 0;

@@ -17,7 +17,7 @@ mod months;
 mod moves;
 
 // What a move has to be for an event.
-#[derive(Drop)]
+#[derive(Clone, Copy)]
 pub enum Condition {
     // Exactly I, within the first N.
     OneAtInitial,
@@ -29,7 +29,7 @@ pub enum Condition {
     AtExpanded,
 }
 
-#[derive(Drop)]
+#[derive(Clone, Copy)]
 pub enum Found {
     At(Lead),
     Nobody,

@@ -4,7 +4,7 @@ ghost use Rattle.grain.specs.Products.{first_of};
 ghost use Rattle.grain.specs.Spot.{is_spot};
 ghost use Rattle.record.specs.State.{max_contracts};
 ghost use Rattle.sheets.specs.Sheets.{contracts_of};
-ghost use Rattle.ending.specs.Search.{oneIfEarlier, countEarlier, meets_in};
+ghost use Rattle.ending.specs.Search.{one_if_earlier, count_earlier, meets_in};
 
 use crate::lead::Condition;
 use book::Limit;
@@ -12,7 +12,7 @@ use grain::TradeDate;
 use sheets::{Listed, Sheet};
 
 fn one_if_earlier(month: u32, than: u32, date: TradeDate) -> u32
-    ensures { result ≡ oneIfEarlier (is_spot date) than month }
+    ensures { result ≡ one_if_earlier (is_spot date) than month }
 {
     if date.is_spot(month) {
         return 0;
@@ -26,7 +26,7 @@ fn one_if_earlier(month: u32, than: u32, date: TradeDate) -> u32
 // How many non-spot contracts of a sheet are before a month.
 fn count_earlier(s: Sheet, month: u32, date: TradeDate) -> u32
     requires { s.len ≤ max_contracts }
-    ensures { result ≡ countEarlier (is_spot date) month (contracts_of s) }
+    ensures { result ≡ count_earlier (is_spot date) month (contracts_of s) }
 {
     let n = s.len;
     let mut count: u32 = 0;
@@ -47,7 +47,7 @@ fn is_trigger(
     date: TradeDate,
 ) -> bool
     requires { current.len ≤ max_contracts }
-    ensures { result ≡ (ltb (countEarlier (is_spot date) month (contracts_of current)) (first_of product) && eqb size initial) }
+    ensures { result ≡ (ltb (count_earlier (is_spot date) month (contracts_of current)) (first_of product) && eqb size initial) }
 {
     if size != initial {
         return false;

@@ -20,7 +20,7 @@ fn put_mark(out: &mut Buffer, at: usize, mark: u8, item: usize) -> usize {
 }
 
 // Which of a group's two bits a row has.
-#[derive(Drop)]
+#[derive(Clone, Copy)]
 pub enum Bit {
     Level,
     Mark,
@@ -48,7 +48,7 @@ pub(crate) fn put_bits(
 }
 
 // Which of a product's two limits a row has.
-#[derive(Drop)]
+#[derive(Clone, Copy)]
 pub enum Amount {
     Initial,
     Expanded,

@@ -7,7 +7,7 @@ use borrow.Author.Count.{below_more}
 use Rattle.book.specs.Numbers.{numbers_from}
 use Rattle.ending.specs.declared.lead.Found.TheVariants.{Nobody}
 use Rattle.ending.specs.Lead.{found_as}
-use Rattle.ending.proofs.Searched.{isMet, Clear, ClearAt, clear_spot, clear_next, none_leads, this_leads}
+use Rattle.ending.proofs.Searched.{is_met, Clear, ClearAt, clear_spot, clear_next, none_leads, this_leads}
 use Rattle.ending.proofs.Products.{products_next}
 use Rattle.ending.proofs.Nexts.{next_of, next-after, next-all}
 use Rattle.ending.proofs.lead.leading.Statement.{statement}
@@ -15,7 +15,7 @@ use Rattle.ending.proofs.lead.leading.Tie as tie
 
 abbrev invariant-loop : tie.invariant-loop
 invariant-loop date condition lo hi b enough month found₀ next₀ p₀ found next p =
-    (lo ≤ p) × (p ≤ hi) × (found ≡ Nobody) × ClearAt (isMet b date condition) lo p month
+    (lo ≤ p) × (p ≤ hi) × (found ≡ Nobody) × ClearAt (is_met b date condition) lo p month
     × (next_of b.today month 0 (numbers_from lo (hi - lo)) ≡ next_of b.today month next (numbers_from p (hi - p)))
     × (next < 2 ^ 32)
 
@@ -24,7 +24,7 @@ decreases-loop date condition lo hi b enough month found₀ next₀ p₀ found n
 
 abbrev invariant-search : tie.invariant-search
 invariant-search date condition lo hi b enough month₀ found₀ month found =
-    (found ≡ Nobody) × Clear (isMet b date condition) lo hi month
+    (found ≡ Nobody) × Clear (is_met b date condition) lo hi month
 
 abbrev decreases-search : tie.decreases-search
 decreases-search date condition lo hi b enough month₀ found₀ month found = 2 ^ 32 - month
@@ -81,7 +81,7 @@ loop-less : tie.Need-loop-smaller invariant-loop decreases-loop invariant-search
 loop-less c = search rules
 
 loop-again : tie.Need-loop-preserved invariant-loop decreases-loop invariant-search decreases-search
-unfolding isMet
+unfolding is_met
 loop-again c =
     let k = c.before.before.before.before.before.before.before in
     let month = k.before.search.month in
@@ -91,7 +91,7 @@ loop-again c =
       omega arith,
       k.loop.invariant.2,
       λ q l h.
-          below_more (λ (x : ℕ). a.lo ≤ x → isMet a.t1 a.date a.condition x month ≡ false) k.loop.p
+          below_more (λ (x : ℕ). a.lo ≤ x → is_met a.t1 a.date a.condition x month ≡ false) k.loop.p
           (λ x i j. k.loop.invariant.3 x j i) (λ _. rw (k.before.before.requires.3 _ k.loop.invariant.0 (omega arith)) at (sym c.before.before.meets-in.ensures ∙ c.before.if1.false)) q h l,
       k.loop.invariant.4 ∙ rw (more, c.next-in.ensures),
       c.next-in.type-inv,
@@ -129,7 +129,7 @@ search-again c =
     )
 
 returns : tie.Need-returns invariant-loop decreases-loop invariant-search decreases-search
-unfolding isMet
+unfolding is_met
 returns c =
     let k = c.before.before.before.before.before.before in
     let s = k.before.before in

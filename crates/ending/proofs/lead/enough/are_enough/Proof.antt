@@ -9,7 +9,7 @@ use Rattle.grain.specs.Spot.{is_spot}
 use Rattle.record.specs.State.{max_contracts}
 use Rattle.sheets.specs.Sheets.{contracts_of}
 use Rattle.sheets.proofs.Rest.{mapped, fitting_next, fitting_end}
-use Rattle.ending.specs.Search.{countFrom}
+use Rattle.ending.specs.Search.{count_from}
 use Rattle.ending.proofs.Enough.{at_most_two}
 use Rattle.ending.proofs.lead.enough.are_enough.Statement.{statement}
 use Rattle.ending.proofs.lead.enough.are_enough.Tie as tie
@@ -19,7 +19,7 @@ same n = let e : n ≡ n + 0 = omega arith in ap (leb 2) e
 
 abbrev invariant-loop : tie.invariant-loop
 invariant-loop product initial last date current n more₀ count₀ i₀ more count i =
-    let from = countFrom (is_spot date) product initial (contracts_of last) in
+    let from = count_from (is_spot date) product initial (contracts_of last) in
     (i ≤ n) × (count ≤ 2 * i) × (length current.contracts ≡ max_contracts) × (from (first_of product) (contracts_of current) ≡ count + from more (drop i (contracts_of current)))
 
 abbrev decreases-loop : tie.decreases-loop

@@ -10,15 +10,15 @@ use Rattle.record.specs.State.{settlement_on}
 use Rattle.sheets.specs.Sheets.{entries_of, contracts_of}
 use Rattle.sheets.proofs.Rest.{counted}
 use Rattle.sheets.proofs.Lookups.{is_none, is_some}
-use Rattle.ending.specs.Search.{count_of, countAt}
+use Rattle.ending.specs.Search.{count_of, count_at}
 use Rattle.ending.proofs.lead.enough.count_at.Statement.{statement}
 use Rattle.ending.proofs.lead.enough.count_at.Tie as tie
 
 -- neither spot nor beyond the first N: its change counts
 counts : (k : tie.After-find) → let a = k.before.before.before.before.args in
-    countAt (is_spot a.date) a.product a.initial (contracts_of a.last) a.more a.c
+    count_at (is_spot a.date) a.product a.initial (contracts_of a.last) a.more a.c
     ≡ count_of a.product a.initial a.c (settlement_on (entries_of a.last) a.c.month)
-unfolding countAt
+unfolding count_at
 counts k =
     let e = k.before.before in
     let a = e.before.before.args in
@@ -26,7 +26,7 @@ counts k =
 
 -- on the last ended sheet: by how far it moved
 counts-change : (d : tie.After-distance) → let a = d.before.before.before.before.before.before.before.before.args in
-    countAt (is_spot a.date) a.product a.initial (contracts_of a.last) a.more a.c
+    count_at (is_spot a.date) a.product a.initial (contracts_of a.last) a.more a.c
     ≡ cond (eqb d.distance.result a.initial) (cond (is_last_crop_month a.product a.c.month) 2 1) 0
 counts-change d =
     let k = d.before.before.before.before in
@@ -37,11 +37,11 @@ is-spot-requires : tie.Need-is-spot-requires
 is-spot-requires c κs = search rules
 
 returns : tie.Need-returns
-unfolding countAt
+unfolding count_at
 returns c = rw (sym c.before.is-spot.ensures ∙ c.if1.true)
 
 returns-2 : tie.Need-returns-2
-unfolding countAt
+unfolding count_at
 returns-2 c = rw (sym c.before.before.is-spot.ensures ∙ c.before.if1.false, eq-eqb _ _ c.if2.true)
 
 find-requires : tie.Need-find-requires

@@ -6,14 +6,14 @@ use lib.ListN.{drop}
 use Rattle.grain.specs.Spot.{is_spot}
 use Rattle.sheets.specs.Sheets.{contracts_of}
 use Rattle.sheets.proofs.Rest.{mapped, fitting_next, fitting_end}
-use Rattle.ending.specs.Search.{countEarlier}
+use Rattle.ending.specs.Search.{count_earlier}
 use Rattle.ending.proofs.Earlier.{at_most_one}
 use Rattle.ending.proofs.lead.moves.count_earlier.Statement.{statement}
 use Rattle.ending.proofs.lead.moves.count_earlier.Tie as tie
 
 abbrev invariant-loop : tie.invariant-loop
 invariant-loop month date s n count₀ i₀ count i =
-    let earlier = countEarlier (is_spot date) month in
+    let earlier = count_earlier (is_spot date) month in
     (i ≤ n) × (count ≤ i) × (earlier (contracts_of s) ≡ count + earlier (drop i (contracts_of s)))
 
 abbrev decreases-loop : tie.decreases-loop

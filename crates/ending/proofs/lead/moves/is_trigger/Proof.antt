@@ -5,7 +5,7 @@ use borrow.Author.Tests.{eq-eqb, ne_eqb}
 use Rattle.grain.specs.Products.{first_of}
 use Rattle.grain.specs.Spot.{is_spot}
 use Rattle.sheets.specs.Sheets.{contracts_of}
-use Rattle.ending.specs.Search.{countEarlier}
+use Rattle.ending.specs.Search.{count_earlier}
 use Rattle.ending.proofs.Ands.{and_true, and_false}
 use Rattle.ending.proofs.lead.moves.is_trigger.Statement.{statement}
 use Rattle.ending.proofs.lead.moves.is_trigger.Tie as tie
@@ -15,7 +15,7 @@ returns : tie.Need-returns
 returns c =
     let a = c.before.args in
     rw (ne_eqb _ _ c.if1.true)
-    (sym (and_false (ltb (countEarlier (is_spot a.date) a.month (contracts_of a.current)) (first_of a.product))))
+    (sym (and_false (ltb (count_earlier (is_spot a.date) a.month (contracts_of a.current)) (first_of a.product))))
 
 count-earlier-requires : tie.Need-count-earlier-requires
 count-earlier-requires c κs = search rules

@@ -11,7 +11,7 @@ use Rattle.record.specs.Move.{Move}
 use Rattle.sheets.specs.Sheets.{entries_of, contracts_of}
 use Rattle.sheets.proofs.Rest.{counted}
 use Rattle.sheets.proofs.Lookups.{is_none, is_some}
-use Rattle.ending.specs.Search.{countEarlier, meets_on}
+use Rattle.ending.specs.Search.{count_earlier, meets_on}
 use Rattle.ending.proofs.lead.moves.meets_in.Statement.{statement}
 use Rattle.ending.proofs.lead.moves.meets_in.Tie as tie
 
@@ -29,7 +29,7 @@ met : (k : tie.After-distance) (g : Move → Bool)
     ≡ g (record {
       month = a.month;
       product = a.product;
-      is_first = ltb (countEarlier (is_spot a.date) a.month (contracts_of a.current)) (first_of a.product);
+      is_first = ltb (count_earlier (is_spot a.date) a.month (contracts_of a.current)) (first_of a.product);
       size = k.distance.result;
       initial_limit = a.limit.initial;
       expanded_limit = a.limit.expanded;

@@ -1,0 +1,21 @@
+use borrow.Author.Rules.{rules}
+use native.Mathlib.Omega.{arith}
+use Prim.Native.Nat.{ℕ, ◌-◌, ◌*◌, ◌≤◌, ◌<◌}
+use mathlib.Core.Path.{◌≡◌, sym, ◌∙◌}
+use lib.ListN.{length, get_or}
+use borrow.Author.Count.{below_more}
+use Rattle.sheets.proofs.Rest.{mapped}
+use Rattle.book.specs.Book.{no_sheet}
+use Rattle.image.specs.Places.{sheet_words}
+use Rattle.image.specs.Words.{flat}
+use Rattle.image.specs.Image.{words_of_sheet}
+use Rattle.image.proofs.Toward.{Toward, toward_start}
+use Rattle.image.proofs.Chunks.{put_next, put_end}
+use Rattle.image.proofs.Lengths.{sheet_long}
+use Rattle.image.proofs.sheet_words.put_sheets.Given as goal
+
+abbrev pub invariant-loop-p : goal.invariant-loop-p
+invariant-loop-p l = (l.p ≤ 8) × Toward (8 * sheet_words) (flat words_of_sheet l.sheets) (sheet_words * l.p) l.out × ((q : ℕ) → q < l.p → length (get_or l.sheets q no_sheet).contracts ≡ 16)
+
+abbrev pub decreases-loop-p : goal.decreases-loop-p
+decreases-loop-p l = 8 - l.p

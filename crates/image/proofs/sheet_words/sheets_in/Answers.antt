@@ -1,0 +1,23 @@
+use borrow.Author.Rules.{rules}
+use native.Mathlib.Omega.{arith}
+use Prim.Native.Nat.{◌-◌, ◌≤◌}
+use mathlib.Core.Path.{refl, ◌∙◌}
+use Rattle.book.specs.Book.{no_sheet}
+use Rattle.image.specs.Places.{sheet_words}
+use Rattle.image.specs.Words.{chunks}
+use Rattle.image.specs.Image.{sheet_of}
+use Rattle.image.proofs.Toward.{Toward, toward_start, toward_next, toward_end}
+use Rattle.image.proofs.Chunks.{chunks_long, chunk_lent}
+use Rattle.image.proofs.sheet_words.sheets_in.Goals as goal
+
+pub loop-p-init : goal.loop-p-init
+loop-p-init c = (search rules, toward_start 8 _ _ refl)
+
+pub loop-p-preserved : goal.loop-p-preserved
+loop-p-preserved c =
+    let s = c.args.s.now in
+    let read = c.sheet_in.ensures ∙ chunk_lent sheet_words sheet_of 8 s c.loop-p.p no_sheet (omega arith) in
+    (omega arith, toward_next 8 _ (chunks_long sheet_words sheet_of 8 s) c.loop-p.p _ c.loop-p.invariant.1 no_sheet _ (omega arith) read)
+
+pub returns : goal.returns
+returns c = toward_end 8 _ (chunks_long sheet_words sheet_of 8 c.args.s.now) c.loop-p.p _ c.loop-p.invariant.1 (omega arith)

@@ -1,0 +1,29 @@
+use borrow.Author.Rules.{rules}
+use native.Mathlib.Omega.{arith}
+use Prim.Native.Nat.{◌-◌, ◌≤◌}
+use mathlib.Core.Path.{◌≡◌, sym, ◌∙◌}
+use borrow.Author.Tests.{not-true, not-false}
+use Rattle.grain.specs.Prices.{is_settlement}
+use lib.ListN.{drop}
+use Rattle.grain.specs.Lists.{every}
+use Rattle.sheets.specs.Sheets.{entries_of, settlements_of}
+use Rattle.sheets.proofs.Rest.{mapped, every_fails, every_goes_on, every_end}
+use Rattle.sheets.proofs.Sheet.is_settled.Goals as goal
+
+pub returns-then-not-is_on_tick : goal.returns-then-not-is_on_tick
+returns-then-not-is_on_tick c =
+    let no = sym (rw c.tick-tick.ensures at c.is_on_tick.ensures) ∙ c.if-not-is_on_tick.true in
+    sym
+    (c.loop-i.invariant.1
+    ∙ every_fails c.args.self c.loop-i.i _ (search mapped) c.reach-n.ensures _ (λ c. c.settlement) (omega arith) no)
+
+pub loop-i-preserved : goal.loop-i-preserved
+loop-i-preserved c =
+    let yes = sym (rw c.tick-tick.ensures at c.is_on_tick.ensures) ∙ c.if-not-is_on_tick.false in (
+      omega arith,
+      c.loop-i.invariant.1
+          ∙ every_goes_on c.args.self c.loop-i.i _ (search mapped) c.reach-n.ensures _ (λ c. c.settlement) (omega arith) yes,
+    )
+
+pub returns : goal.returns
+returns c = sym (c.loop-i.invariant.1 ∙ every_end c.args.self c.loop-i.i _ (search mapped) c.reach-n.ensures _ (λ c. c.settlement) (omega arith))

@@ -1,0 +1,15 @@
+use borrow.Author.Rules.{rules}
+use native.Mathlib.Omega.{arith}
+use Prim.Native.Nat.{◌-◌, ◌≤◌, ◌<◌, min}
+use mathlib.Core.Path.{◌≡◌, sym, ◌∙◌}
+use lib.ListN.{length, take, length-set, length-take}
+use Rattle.record.specs.Sheet.{contracts}
+use Rattle.sheets.specs.Sheets.{entries_of}
+use Rattle.sheets.proofs.Fills.{contracts-length, fill_next, take_reached}
+use Rattle.sheets.proofs.Sheet.of.Given as goal
+
+abbrev pub invariant-loop-i : goal.invariant-loop-i
+invariant-loop-i l = (l.i ≤ l.n) × (length l.all ≡ 16) × (take l.i l.all ≡ take l.i (contracts l.months l.settlements))
+
+abbrev pub decreases-loop-i : goal.decreases-loop-i
+decreases-loop-i l = l.n - l.i
