@@ -1,0 +1,17 @@
+use borrow.Author.Rules.{rules}
+use native.Mathlib.Omega.{arith}
+use Prim.Native.Nat.{◌-◌, ◌≤◌}
+use mathlib.Core.Path.{◌≡◌, ◌∙◌}
+use lib.ListN.{drop}
+use Rattle.sheets.specs.Sheets.{contracts_of}
+use Rattle.sheets.proofs.Rest.{mapped, fitting_next, fitting_end}
+use Rattle.ending.specs.Search.{next_in}
+use Rattle.ending.proofs.lead.months.next_in.Goals as goal
+
+pub loop-i-preserved : goal.loop-i-preserved
+loop-i-preserved c =
+    let more = fitting_next c.args.s c.loop-i.i (search mapped) (omega arith) (omega arith) in
+    (omega arith, c.loop-i.invariant.1 ∙ rw (more, c.sooner_of-next.ensures))
+
+pub returns : goal.returns
+returns c = rw (c.loop-i.invariant.1, fitting_end c.args.s c.loop-i.i (search mapped) (omega arith) (omega arith))
