@@ -12,9 +12,9 @@ use Rattle.record.specs.Check.{Terms, listed, order_tests, judged}
 use Rattle.record.specs.Record.{refused, checked, order_answer}
 
 module _ (t : Terms) (month price : ℕ) where
-  pub not_listed : listed t.date t.last month ≡ none → order_answer t month price ≡ refused not_listed
+  pub none_listed : listed t.date t.last month ≡ none → order_answer t month price ≡ refused not_listed
   unfolding order_tests
-  not_listed e = rw e
+  none_listed e = rw e
 
   module _ (x : ℕ) (found : listed t.date t.last month ≡ some x) where
     pub bad_price_lem : is_on_tick t.tick price ≡ false → order_answer t month price ≡ refused bad_price

@@ -19,12 +19,12 @@ first-and-rest (x ∷ l) v zs e =
     let none : length l ≤ 16 * contract_words = omega arith in rw (drop_of_length-le l none, append-nil)
 
 written : (c : After-slice_known-2-1)
-    → put_mid 1 (16 * contract_words) (set c.args.out.now 0 c.count_word.result) c.put_contracts.new.0
+    → put_mid 1 (16 * contract_words) (set c.args.out.now 0 c.count_word.result) c.put_contracts.new.out
     ≡ words_of_sheet c.args.s
 unfolding words_of_sheet
 written c =
     let n = c.count_word in
-    first-and-rest c.args.out.now n.result c.put_contracts.new.0 c.requires ∙ rw (c.put_contracts.ensures.0, n.ensures)
+    first-and-rest c.args.out.now n.result c.put_contracts.new.out c.requires ∙ rw (c.put_contracts.ensures.0, n.ensures)
 
 pub returns : goal.returns
 returns c = (written c, c.put_contracts.ensures.1)

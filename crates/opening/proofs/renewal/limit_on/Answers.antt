@@ -34,9 +34,7 @@ pub returns-then-not-is_renewed : goal.returns-then-not-is_renewed
 returns-then-not-is_renewed c = rw (sym c.is_renewed.ensures ∙ c.if-not-is_renewed.true)
 
 pub returns-in_default : goal.returns-in_default
-returns-in_default c =
-    let other = rw (limits_are (goal.at.returns-in_default c).After-season_limits) at c.in_default.keys2 in
-    absurd (miss (1 ∷ 2 ∷ 3 ∷ []) 0 tt other)
+returns-in_default c = absurd (c.in_default.not-Are _ _ (limits_are (goal.at.returns-in_default c).After-season_limits))
 
 pub returns : goal.returns
 returns c =
