@@ -85,9 +85,9 @@ fn window_after(w: Windows, p: usize, c: Collecting, s: Sheet) -> Windows
 }
 
 pub(crate) fn windows_after(b: Book, date: TradeDate) -> Windows
-    requires day_value { (is_true_day b.day ≡ true) × (date ≡ trade_date b.day) }
-    requires by_index { (p : ℕ) → p < product_count → size_of b.windows p ≤ window_length }
-    requires by_index_2 { (p : ℕ) → p < product_count → (today_in b p).len ≤ max_contracts }
+    requires true_day { (is_true_day b.day ≡ true) × (date ≡ trade_date b.day) }
+    requires windows_fit { (p : ℕ) → p < product_count → size_of b.windows p ≤ window_length }
+    requires sheets_fit { (p : ℕ) → p < product_count → (today_in b p).len ≤ max_contracts }
     ensures { (p : ℕ) → p < product_count → window_of result p ≡ window_of_end b p }
 {
     let day = b.day;

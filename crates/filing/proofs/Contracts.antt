@@ -12,7 +12,7 @@ use Rattle.record.specs.declared.Day.{Day}
 use Rattle.record.specs.declared.Contract.{Contract}
 use Rattle.record.specs.Choices.{or_else}
 use Rattle.record.specs.Refusals.{when, first, bad_month, contract_absent, beyond_limit}
-use Rattle.record.specs.State.{Product, day_of, month_of, trade_date, is_spot_on, group_of, group_at, product_in, todays_limit, sheet_or}
+use Rattle.record.specs.State.{Product, month_of, trade_date, is_spot_on, group_of, group_at, product_in, todays_limit, sheet_or}
 use Rattle.record.specs.Sheet.{has_bad_month, has_bad_settlement, lacks_contract, is_beyond}
 use Rattle.sheets.specs.Sheets.{entries_of, months_of, settlements_of}
 use Rattle.sheets.proofs.Rest.{counted}

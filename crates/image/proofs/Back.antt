@@ -4,8 +4,8 @@ use mathlib.Core.Path.{◌≡◌, refl, ap}
 use mathlib.Core.Bool.{Bool, true, false}
 use mathlib.Core.List.{List, [], ◌∷◌, ◌++◌, map, append_assoc}
 use native.Mathlib.Omega.{arith}
-use lib.Dec.{eqb, leb}
-use lib.ListN.{length, get_or, take, drop}
+use lib.Dec.{eqb}
+use lib.ListN.{length, get_or, drop}
 use lib.Seq.{take_all, take_at, drop_at}
 use borrow.Author.Tests.{le-leb}
 use Rattle.grain.specs.Lists.{◌and◌, every}

@@ -1,4 +1,3 @@
-use borrow.Author.Rules.{rules}
 use mathlib.Core.Path.{sym, ap, ◌∙◌}
 use Rattle.record.specs.Check.{Terms}
 use Rattle.record.specs.Record.{check, terms_refusal, order_answer}

@@ -1,4 +1,3 @@
-use borrow.Author.Rules.{rules}
 use mathlib.Core.Path.{refl}
 use mathlib.Core.Bool.{false}
 use lib.ListN.{replicate, get_or-replicate}
@@ -18,7 +17,7 @@ standings_after-standings-requires c = readable c.args.b c.requires.0
 pub windows_after-next-requires : goal.windows_after-next-requires
 windows_after-next-requires c =
     let b = c.args.b in
-    ((c.requires.1, c.requires.2), (size_fits b c.requires.0, today_fits b c.requires.0))
+    record { true_day = (c.requires.1, c.requires.2); windows_fit = size_fits b c.requires.0; sheets_fit = today_fits b c.requires.0 }
 
 pub returns : goal.returns
 returns c =

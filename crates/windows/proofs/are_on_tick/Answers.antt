@@ -1,10 +1,7 @@
 use borrow.Author.Rules.{rules}
-use Prim.Native.Nat.{◌-◌, ◌≤◌}
-use mathlib.Core.Path.{◌≡◌, refl, sym, ◌∙◌}
-use lib.ListN.{length, drop}
+use mathlib.Core.Path.{refl, sym, ◌∙◌}
 use Rattle.grain.proofs.Scans.{every_so_far, every_by_end}
-use Rattle.grain.specs.Lists.{◌and◌, every}
-use Rattle.grain.specs.Prices.{is_on_tick}
+use Rattle.grain.specs.Lists.{◌and◌}
 use Rattle.windows.proofs.are_on_tick.Goals as goal
 
 pub loop-i-init : goal.loop-i-init

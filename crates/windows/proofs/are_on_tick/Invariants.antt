@@ -1,8 +1,6 @@
-use borrow.Author.Rules.{rules}
 use Prim.Native.Nat.{◌-◌, ◌≤◌}
-use mathlib.Core.Path.{◌≡◌, refl, sym, ◌∙◌}
+use mathlib.Core.Path.{◌≡◌}
 use lib.ListN.{length, drop}
-use Rattle.grain.proofs.Scans.{every_so_far, every_by_end}
 use Rattle.grain.specs.Lists.{◌and◌, every}
 use Rattle.grain.specs.Prices.{is_on_tick}
 use Rattle.windows.proofs.are_on_tick.Given as goal

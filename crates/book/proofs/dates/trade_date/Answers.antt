@@ -1,4 +1,3 @@
-use borrow.Author.Rules.{rules}
 use borrow.Author.Tests.{lt-leb, le-leb}
 use Rattle.grain.specs.Dates.{contract_month}
 use Rattle.book.specs.Dates.{trade_date_of}

@@ -1,13 +1,10 @@
 use borrow.Author.Rules.{rules}
-use borrow.Author.Tests.{not-true, not-false}
-use lib.ListN.{get_or, drop}
+use lib.ListN.{get_or}
 use Rattle.grain.specs.Amounts.{is_fit_founding}
-use Prim.Native.Nat.{ℕ, ◌-◌, ◌≤◌}
+use Prim.Native.Nat.{ℕ}
 use mathlib.Core.Path.{◌≡◌, sym, ◌∙◌}
 use mathlib.Core.Bool.{Bool, true, false}
-use Rattle.grain.specs.Lists.{every}
 use Rattle.grain.specs.Products.{product_count}
-use Rattle.book.specs.Numbers.{all_products}
 use Rattle.book.proofs.Founded.{fit_is}
 use Rattle.book.proofs.Numbers.{one_fails, one_goes_on, none_left}
 use Rattle.book.proofs.founding.are_fit.Goals as goal

@@ -1,6 +1,4 @@
-use borrow.Author.Rules.{rules}
 use mathlib.Core.Path.{sym, ◌∙◌}
-use borrow.Author.Tests.{not-true, not-false}
 use Rattle.book.proofs.FoundingNumbers.{no_edition_lem, unfit, fit, refused_founds}
 use Rattle.book.proofs.founding.found.Goals as goal
 

@@ -1,13 +1,12 @@
 use borrow.Author.Rules.{rules}
-use Prim.Native.Nat.{◌-◌, ◌≤◌}
-use mathlib.Core.Path.{◌≡◌, refl}
+use mathlib.Core.Path.{refl}
 use lib.ListN.{get_or}
 use Rattle.record.specs.Founding.{Start}
 use Rattle.book.specs.Book.{no_limit}
 use Rattle.book.specs.Founding.{no_book}
 use Rattle.book.specs.declared.Limit.{Limit}
-use Rattle.book.proofs.Founded.{limits_from, Blank, blank_with, no_book-blank, no_book_long, founded_shown}
-use Rattle.book.proofs.Filled.{Filled, filled_start, filled_next, filled_end}
+use Rattle.book.proofs.Founded.{blank_with, no_book-blank, no_book_long, founded_shown}
+use Rattle.book.proofs.Filled.{filled_start, filled_next, filled_end}
 use Rattle.book.proofs.founding.fresh.Goals as goal
 
 pub loop-p-init : goal.loop-p-init

@@ -1,8 +1,5 @@
 use borrow.Author.Rules.{rules}
-use Prim.Native.Nat.{◌-◌, ◌≤◌}
 use mathlib.Core.Path.{sym}
-use Rattle.record.specs.State.{group_count}
-use Rattle.book.specs.Numbers.{products_before}
 use Rattle.book.proofs.ProductsBefore.{none_before, between, past_all}
 use Rattle.book.proofs.groups.group_of.Goals as goal
 

@@ -1,17 +1,13 @@
-use borrow.Author.Rules.{rules}
-use borrow.Author.Tests.{eq-eqb, ne_eqb}
 use lib.ListN.{get_or, drop}
 use Rattle.grain.specs.Products.{product_count}
 use Rattle.record.specs.Choices.{is_some}
 use Rattle.sheets.specs.Sheets.{sheet_in}
 use Rattle.book.specs.Book.{no_sheet}
-use Prim.Native.Nat.{ℕ, ◌-◌, ◌≤◌}
-use mathlib.Core.Path.{◌≡◌, sym}
-use mathlib.Core.Bool.{Bool, true, false, not}
+use Prim.Native.Nat.{◌-◌, ◌≤◌}
+use mathlib.Core.Path.{◌≡◌}
+use mathlib.Core.Bool.{not}
 use Rattle.grain.specs.Lists.{every}
 use Rattle.book.specs.Numbers.{all_products}
-use Rattle.book.proofs.SheetsIn.{sheet_is_in}
-use Rattle.book.proofs.Numbers.{one_fails, one_goes_on, none_left}
 use Rattle.book.proofs.soundness.are_all_missing.Given as goal
 
 abbrev pub invariant-loop-p : goal.invariant-loop-p

@@ -1,14 +1,11 @@
 use borrow.Author.Rules.{rules}
-use borrow.Author.Tests.{not-true, not-false}
-use lib.ListN.{get_or, drop}
+use lib.ListN.{get_or}
 use Rattle.record.specs.State.{group_count}
 use Rattle.book.specs.Book.{no_standing}
-use Prim.Native.Nat.{ℕ, ◌-◌, ◌≤◌}
+use Prim.Native.Nat.{ℕ}
 use mathlib.Core.Path.{◌≡◌, sym, ◌∙◌}
 use mathlib.Core.Bool.{Bool, true, false}
-use Rattle.grain.specs.Lists.{every}
 use Rattle.book.specs.Soundness.{is_mark_sound}
-use Rattle.book.specs.Numbers.{all_groups}
 use Rattle.book.proofs.Numbers.{one_fails, one_goes_on, none_left}
 use Rattle.book.proofs.soundness.are_marks_sound.Goals as goal
 

@@ -1,15 +1,12 @@
-use borrow.Author.Rules.{rules}
 use Prim.Native.Nat.{ℕ, ◌-◌, ◌≤◌}
-use mathlib.Core.Path.{◌≡◌, sym, ◌∙◌}
-use mathlib.Core.Bool.{Bool, true, false}
-use borrow.Author.Tests.{not-true, not-false}
+use mathlib.Core.Path.{◌≡◌}
+use mathlib.Core.Bool.{Bool}
 use lib.ListN.{get_or, drop}
 use Rattle.grain.specs.Lists.{every}
 use Rattle.grain.specs.Products.{product_count}
-use Rattle.book.specs.Book.{no_limit, no_sheet, limit_in, today_in, last_in}
+use Rattle.book.specs.Book.{no_limit, no_sheet}
 use Rattle.book.specs.Soundness.{are_items_sound}
 use Rattle.book.specs.Numbers.{all_products}
-use Rattle.book.proofs.Numbers.{one_fails, one_goes_on, none_left}
 use Rattle.book.proofs.soundness.are_products_sound.Given as goal
 
 abbrev pub invariant-loop-p : goal.invariant-loop-p

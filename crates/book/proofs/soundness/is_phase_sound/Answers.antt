@@ -1,4 +1,3 @@
-use borrow.Author.Rules.{rules}
 use Rattle.book.proofs.soundness.is_phase_sound.Goals as goal
 
 pub returns : goal.returns

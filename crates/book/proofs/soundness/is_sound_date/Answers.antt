@@ -1,4 +1,3 @@
-use borrow.Author.Rules.{rules}
 use mathlib.Core.Path.{sym, ◌∙◌}
 use Rattle.record.specs.Sound.{is_sound_date}
 use Rattle.book.proofs.soundness.is_sound_date.Goals as goal

@@ -1,6 +1,4 @@
-use borrow.Author.Rules.{rules}
 use mathlib.Core.Path.{sym, ◌∙◌}
-use borrow.Author.Tests.{not-true, not-false}
 use Rattle.grain.specs.Lists.{◌and◌}
 use Rattle.book.proofs.soundness.is_sound_limit.Goals as goal
 

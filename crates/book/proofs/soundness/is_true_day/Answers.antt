@@ -1,4 +1,3 @@
-use borrow.Author.Rules.{rules}
 use Rattle.record.specs.Opening.{is_true_day}
 use Rattle.grain.proofs.FactsOfDates.{no_date_lem, dated}
 use Rattle.book.proofs.soundness.is_true_day.Goals as goal

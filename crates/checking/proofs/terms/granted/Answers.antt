@@ -1,4 +1,3 @@
-use borrow.Author.Rules.{rules}
 use Rattle.checking.proofs.terms.granted.Goals as goal
 
 pub returns : goal.returns

@@ -1,4 +1,3 @@
-use borrow.Author.Rules.{rules}
 use mathlib.Core.Path.{refl}
 use Rattle.book.proofs.SheetsIn.{no_entries}
 use Rattle.checking.proofs.terms.refused.Goals as goal

@@ -1,7 +1,6 @@
-use borrow.Author.Rules.{rules}
 use native.Mathlib.Omega.{arith}
 use mathlib.Core.Path.{sym, ◌∙◌, ap}
-use borrow.Author.Tests.{le-leb, lt-leb, not-true, not-false}
+use borrow.Author.Tests.{le-leb, lt-leb}
 use Rattle.record.specs.Window.{collected_month}
 use Rattle.ending.specs.declared.collection.Collecting.TheVariants.{Month}
 use Rattle.ending.proofs.Months.{dated, next_july_lem, this_july, this_year, new_crop_small}

@@ -1,15 +1,11 @@
-use borrow.Author.Rules.{rules}
-use native.Mathlib.Omega.{arith}
 use Prim.Native.Nat.{◌-◌, ◌≤◌}
-use mathlib.Core.Path.{ap}
 use lib.ListN.{get_or}
-use Rattle.grain.specs.declared.spot.TradeDate.{TradeDate}
 use Rattle.record.specs.State.{sheet_or}
 use Rattle.record.specs.Window.{window_after}
 use Rattle.sheets.specs.Sheets.{sheet_in}
 use Rattle.windows.specs.Windows.{window_of}
-use Rattle.book.specs.Book.{no_sheet, today_in}
-use Rattle.ending.proofs.Replaced.{Replaced, same_fits, replaced_start, replaced_next, collected_as}
+use Rattle.book.specs.Book.{no_sheet}
+use Rattle.ending.proofs.Replaced.{Replaced}
 use Rattle.ending.proofs.collection.windows_after.Given as goal
 
 abbrev pub invariant-loop-p : goal.invariant-loop-p

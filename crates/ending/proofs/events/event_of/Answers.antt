@@ -1,4 +1,3 @@
-use borrow.Author.Rules.{rules}
 use Rattle.ending.proofs.events.event_of.Goals as goal
 
 pub returns-then-standing : goal.returns-then-standing

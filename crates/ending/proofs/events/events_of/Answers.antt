@@ -1,10 +1,9 @@
 use borrow.Author.Rules.{rules}
 use native.Mathlib.Omega.{arith}
-use Prim.Native.Nat.{ℕ, ◌-◌, ◌≤◌}
+use Prim.Native.Nat.{ℕ}
 use mathlib.Core.Path.{refl, ap}
-use lib.ListN.{get_or}
 use Rattle.record.specs.State.{group_count}
-use Rattle.book.proofs.Filled.{Filled, filled_start, filled_next, filled_end}
+use Rattle.book.proofs.Filled.{filled_start, filled_next, filled_end}
 use Rattle.record.specs.declared.GroupEvent.{GroupEvent}
 use Rattle.book.proofs.Numbers.{values_are}
 use Rattle.ending.specs.Ends.{quiet, event_in, events_of}

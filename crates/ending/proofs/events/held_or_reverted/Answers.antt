@@ -1,4 +1,3 @@
-use borrow.Author.Rules.{rules}
 use Rattle.record.specs.History.{products_of}
 use Rattle.ending.specs.Lead.{lead_for, moves_of, holding_of}
 use Rattle.ending.proofs.Founds.{nobody, found_at}

@@ -1,4 +1,3 @@
-use borrow.Author.Rules.{rules}
 use mathlib.Core.Path.{sym, ◌∙◌}
 use Rattle.record.specs.End.{event_of}
 use Rattle.record.specs.History.{products_of}

@@ -1,4 +1,3 @@
-use borrow.Author.Rules.{rules}
 use Rattle.book.proofs.ProductsBefore.{before_next, before_small, stand_together}
 use Rattle.ending.proofs.events.leading_in.Goals as goal
 

@@ -1,13 +1,11 @@
-use borrow.Author.Rules.{rules}
 use native.Mathlib.Omega.{arith}
-use Prim.Native.Nat.{ℕ, ◌-◌, ◌^◌, ◌≤◌, ◌<◌}
+use Prim.Native.Nat.{ℕ, ◌-◌, ◌≤◌, ◌<◌}
 use mathlib.Core.Path.{◌≡◌, refl, sym, ◌∙◌, ap}
 use mathlib.Core.Bool.{false}
 use borrow.Author.Count.{below_more}
 use Rattle.book.specs.Numbers.{numbers_from}
-use Rattle.ending.specs.declared.lead.Found.TheVariants.{Nobody}
 use Rattle.ending.specs.Lead.{found_as}
-use Rattle.ending.proofs.Searched.{is_met, Clear, ClearAt, clear_spot, clear_next, none_leads, this_leads}
+use Rattle.ending.proofs.Searched.{is_met, clear_spot, clear_next, none_leads, this_leads}
 use Rattle.ending.proofs.Products.{products_next}
 use Rattle.ending.proofs.Nexts.{next_of, next-after, next-all}
 use Rattle.ending.proofs.lead.leading.Goals as goal
@@ -15,14 +13,12 @@ use Rattle.ending.proofs.lead.leading.Goals.{After-loop-p}
 
 -- the products are through: what the loop has is the next month
 
-through : (c : After-loop-p invariant-search decreases-search)
-    → let k = c.before in
-    let a = k.before.before.args in
-    k.loop.next ≡ next_of a.b.today k.before.search.month 0 (numbers_from a.lo (a.hi - a.lo))
+through : (c : After-loop-p)
+    → let a = c.args in
+    c.loop-p.next ≡ next_of a.b.today c.search.month 0 (numbers_from a.lo (a.hi - a.lo))
 through c =
-    let k = c.before in
-    let a = k.before.before.args in
-    next-all a.b.today k.before.search.month k.loop.next k.loop.p a.hi (numbers_from a.lo (a.hi - a.lo)) (omega arith) k.loop.invariant.4
+    let a = c.args in
+    next-all a.b.today c.search.month c.loop-p.next c.loop-p.p a.hi (numbers_from a.lo (a.hi - a.lo)) (omega arith) c.loop-p.invariant.4
 
 pub search-init : goal.search-init
 search-init c =

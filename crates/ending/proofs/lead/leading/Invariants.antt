@@ -1,15 +1,9 @@
-use borrow.Author.Rules.{rules}
-use native.Mathlib.Omega.{arith}
-use Prim.Native.Nat.{ℕ, ◌-◌, ◌^◌, ◌≤◌, ◌<◌}
-use mathlib.Core.Path.{◌≡◌, refl, sym, ◌∙◌, ap}
-use mathlib.Core.Bool.{false}
-use borrow.Author.Count.{below_more}
+use Prim.Native.Nat.{◌-◌, ◌^◌, ◌≤◌, ◌<◌}
+use mathlib.Core.Path.{◌≡◌}
 use Rattle.book.specs.Numbers.{numbers_from}
 use Rattle.ending.specs.declared.lead.Found.TheVariants.{Nobody}
-use Rattle.ending.specs.Lead.{found_as}
-use Rattle.ending.proofs.Searched.{is_met, Clear, ClearAt, clear_spot, clear_next, none_leads, this_leads}
-use Rattle.ending.proofs.Products.{products_next}
-use Rattle.ending.proofs.Nexts.{next_of, next-after, next-all}
+use Rattle.ending.proofs.Searched.{is_met, Clear, ClearAt}
+use Rattle.ending.proofs.Nexts.{next_of}
 use Rattle.ending.proofs.lead.leading.Given as goal
 
 abbrev pub invariant-loop-p : goal.invariant-loop-p

@@ -1,14 +1,10 @@
-use borrow.Author.Rules.{rules}
-use native.Mathlib.Omega.{arith}
 use Prim.Native.Nat.{◌-◌, ◌≤◌}
 use lib.ListN.{get_or}
 use Rattle.grain.specs.Products.{product_count}
 use Rattle.record.specs.State.{group_of}
 use Rattle.record.specs.End.{is_raised}
-use Rattle.record.proofs.GroupTable.{group_small}
-use Rattle.sheets.proofs.Rest.{mapped}
 use Rattle.book.specs.Book.{no_limit}
-use Rattle.book.proofs.Filled.{Filled, filled_start, filled_next, filled_end}
+use Rattle.book.proofs.Filled.{Filled}
 use Rattle.ending.specs.Ends.{quiet, limit_after}
 use Rattle.ending.proofs.limits.limits_after.Given as goal
 

@@ -1,4 +1,3 @@
-use borrow.Author.Rules.{rules}
 use Rattle.record.specs.Move.{is_at_expanded}
 use Rattle.record.specs.History.{products_of}
 use Rattle.ending.specs.Lead.{moves_of}

@@ -1,4 +1,3 @@
-use borrow.Author.Rules.{rules}
 use Rattle.ending.proofs.standings.standing_after.Goals as goal
 
 pub returns-in-Quiet : goal.returns-in-Quiet

@@ -1,11 +1,6 @@
-use borrow.Author.Rules.{rules}
 use mathlib.Core.Path.{◌≡◌, refl, sym, ◌∙◌}
-use borrow.Author.Tests.{not-true, not-false}
 use mathlib.Core.Bool.{Bool, false}
-use mathlib.Core.List.{[], ◌∷◌}
-use types.Run.{OneOf, miss}
-use denote.Enum.Declared.{tag_of}
-use Rattle.record.specs.contracts.Event.{the_type}
+use Rattle.record.specs.declared.Lead.{Lead}
 use Rattle.record.specs.declared.Event.{Event}
 use Rattle.record.specs.declared.Event.TheVariants.{Quiet, Triggered, Held, Reverted, Raised}
 use Rattle.ending.specs.Ends.{standing_after}
@@ -13,10 +8,10 @@ use Rattle.ending.proofs.standings.standing_in.Goals as goal
 
 -- an event that is not Held, by its tag, sets no mark
 
-unheld : (e : Event) → OneOf (0 ∷ 1 ∷ 3 ∷ 4 ∷ []) (tag_of the_type e) → (reached : Bool) → standing_after e false ≡ standing_after e reached
+unheld : (e : Event) → ((l : Lead) → e ≡ Held l → ⊥) → (reached : Bool) → standing_after e false ≡ standing_after e reached
 unheld Quiet other reached = refl
 unheld (Triggered l) other reached = refl
-unheld (Held l) other reached = absurd (miss (0 ∷ 1 ∷ 3 ∷ 4 ∷ []) 2 tt other)
+unheld (Held l) other reached = absurd (other l refl)
 unheld Reverted other reached = refl
 unheld (Raised l) other reached = refl
 
@@ -26,7 +21,7 @@ returns-then-not-has_marks c = rw (sym c.has_marks.ensures ∙ c.if-not-has_mark
 pub returns-in_default : goal.returns-in_default
 returns-in_default c =
     rw (sym c.has_marks.ensures ∙ c.if-not-has_marks.false)
-    (c.standing_after-in_default.ensures ∙ unheld c.args.event c.in_default.keys2 _)
+    (c.standing_after-in_default.ensures ∙ unheld c.args.event c.in_default.not-Held _)
 
 pub returns : goal.returns
 returns c = rw (sym c.has_marks.ensures ∙ c.if-not-has_marks.false) (rw (c.standing_after-2.ensures, c.is_at_expanded.ensures))

@@ -1,12 +1,9 @@
 use borrow.Author.Rules.{rules}
 use native.Mathlib.Omega.{arith}
-use Prim.Native.Nat.{◌-◌, ◌≤◌}
-use lib.ListN.{get_or}
 use Rattle.record.specs.State.{group_count}
 use Rattle.sheets.proofs.Rest.{mapped}
 use Rattle.book.specs.Book.{no_standing}
-use Rattle.book.proofs.Filled.{Filled, filled_start, filled_next, filled_end}
-use Rattle.ending.specs.Ends.{standing_of_end}
+use Rattle.book.proofs.Filled.{filled_start, filled_next, filled_end}
 use Rattle.ending.proofs.standings.standings_after.Goals as goal
 
 pub loop-g-init : goal.loop-g-init

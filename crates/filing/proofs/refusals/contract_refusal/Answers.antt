@@ -1,6 +1,4 @@
-use borrow.Author.Rules.{rules}
 use mathlib.Core.Path.{sym, ◌∙◌}
-use borrow.Author.Tests.{not-true, not-false}
 use Rattle.sheets.specs.Sheets.{entries_of}
 use Rattle.book.proofs.SoundFacts.{last_fits}
 use Rattle.filing.proofs.Contracts.{refused_7, refused_8, refused_9, refused_10, none_late}

@@ -1,6 +1,4 @@
-use borrow.Author.Rules.{rules}
 use mathlib.Core.Path.{sym, ◌∙◌}
-use borrow.Author.Tests.{not-true, not-false}
 use Rattle.grain.specs.Lists.{◌and◌}
 use Rattle.record.specs.Sheet.{has_bad_month}
 use Rattle.filing.proofs.refusals.has_bad_month.Goals as goal

@@ -1,4 +1,3 @@
-use borrow.Author.Rules.{rules}
 use Rattle.image.proofs.answer_words.event_words.Goals as goal
 
 pub returns-in-Triggered : goal.returns-in-Triggered

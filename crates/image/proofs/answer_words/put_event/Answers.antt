@@ -1,10 +1,9 @@
 use borrow.Author.Rules.{rules}
 use native.Mathlib.Omega.{arith}
-use Prim.Native.Nat.{◌-◌, ◌≤◌}
-use mathlib.Core.Path.{◌≡◌, refl, sym, ◌∙◌}
+use mathlib.Core.Path.{◌≡◌, refl, ◌∙◌}
 use lib.ListN.{length}
 use Rattle.image.specs.Places.{event_words}
-use Rattle.image.proofs.Toward.{Toward, toward_start, toward_next, toward_end}
+use Rattle.image.proofs.Toward.{toward_start, toward_next, toward_end}
 use Rattle.image.proofs.answer_words.put_event.Goals as goal
 
 pub loop-i-init : goal.loop-i-init

@@ -1,16 +1,9 @@
-use borrow.Author.Rules.{rules}
-use native.Mathlib.Omega.{arith}
 use Prim.Native.Nat.{◌-◌, ◌*◌, ◌≤◌}
-use mathlib.Core.Path.{◌≡◌, sym, ◌∙◌}
-use lib.ListN.{length}
 use Rattle.record.specs.State.{group_count}
-use Rattle.sheets.proofs.Rest.{mapped}
 use Rattle.image.specs.Places.{event_words}
 use Rattle.image.specs.Words.{flat}
 use Rattle.image.specs.Answers.{words_of_group_event}
-use Rattle.image.proofs.Toward.{Toward, toward_start}
-use Rattle.image.proofs.Chunks.{put_next, put_end}
-use Rattle.image.proofs.Lengths.{quiet, events_sized}
+use Rattle.image.proofs.Toward.{Toward}
 use Rattle.image.proofs.answer_words.put_events.Given as goal
 
 abbrev pub invariant-loop-g : goal.invariant-loop-g

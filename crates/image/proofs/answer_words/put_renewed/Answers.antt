@@ -1,12 +1,10 @@
 use borrow.Author.Rules.{rules}
 use native.Mathlib.Omega.{arith}
-use Prim.Native.Nat.{◌-◌, ◌≤◌}
 use mathlib.Core.Path.{◌≡◌, sym, ◌∙◌}
 use mathlib.Core.Bool.{false}
-use mathlib.Core.List.{map}
 use lib.ListN.{length, length-map, get_or-map}
 use Rattle.image.specs.Image.{flag_word}
-use Rattle.image.proofs.Toward.{Toward, toward_start, toward_next, toward_end}
+use Rattle.image.proofs.Toward.{toward_start, toward_next, toward_end}
 use Rattle.image.proofs.answer_words.put_renewed.Goals as goal
 
 pub loop-p-init : goal.loop-p-init

@@ -1,11 +1,9 @@
-use borrow.Author.Rules.{rules}
 use Prim.Native.Nat.{ℕ}
 use mathlib.Core.Path.{◌≡◌, refl, sym, ◌∙◌}
 use mathlib.Core.Bool.{true, false}
 use mathlib.Core.List.{List}
 use mathlib.Core.Option.{some}
 use lib.ListN.{replicate}
-use borrow.Author.Tests.{not-true, not-false}
 use Rattle.record.specs.Founding.{founding_refusal}
 use Rattle.book.specs.Founding.{no_book}
 use Rattle.image.specs.Image.{is_image, as_book, book_in}

@@ -1,4 +1,3 @@
-use borrow.Author.Rules.{rules}
 use mathlib.Core.Path.{refl}
 use Rattle.image.specs.Places as at
 use Rattle.image.specs.Image.{words_of_book}

@@ -1,11 +1,7 @@
-use borrow.Author.Rules.{rules}
-use native.Mathlib.Omega.{arith}
 use Prim.Native.Nat.{◌-◌, ◌≤◌}
-use mathlib.Core.Path.{◌≡◌, sym, ◌∙◌}
-use lib.ListN.{length, drop, get_or}
-use borrow.Author.Tests.{lt-ltb, le-ltb}
+use mathlib.Core.Path.{◌≡◌}
+use lib.ListN.{length, drop}
 use Rattle.grain.specs.Lists.{every}
-use Rattle.grain.proofs.Scans.{every_fails, every_goes_on, every_end}
 use Rattle.image.specs.Image.{is_flag}
 use Rattle.image.proofs.flags.are_flags.Given as goal
 

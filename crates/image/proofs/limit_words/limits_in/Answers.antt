@@ -1,12 +1,10 @@
 use borrow.Author.Rules.{rules}
 use native.Mathlib.Omega.{arith}
-use Prim.Native.Nat.{◌-◌, ◌≤◌}
 use mathlib.Core.Path.{refl, ◌∙◌}
 use Rattle.book.specs.Book.{no_limit}
 use Rattle.image.specs.Places.{limit_words}
-use Rattle.image.specs.Words.{chunks}
 use Rattle.image.specs.Image.{limit_of}
-use Rattle.image.proofs.Toward.{Toward, toward_start, toward_next, toward_end}
+use Rattle.image.proofs.Toward.{toward_start, toward_next, toward_end}
 use Rattle.image.proofs.Chunks.{chunks_long, chunk_lent}
 use Rattle.image.proofs.limit_words.limits_in.Goals as goal
 

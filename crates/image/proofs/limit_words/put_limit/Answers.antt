@@ -1,4 +1,3 @@
-use borrow.Author.Rules.{rules}
 use Rattle.image.specs.Image.{words_of_limit}
 use Rattle.image.proofs.Sets.{all_set}
 use Rattle.image.proofs.limit_words.put_limit.Goals as goal

@@ -1,14 +1,13 @@
 use borrow.Author.Rules.{rules}
 use native.Mathlib.Omega.{arith}
-use Prim.Native.Nat.{◌-◌, ◌*◌, ◌≤◌}
-use mathlib.Core.Path.{◌≡◌, refl, sym, ◌∙◌}
+use Prim.Native.Nat.{◌*◌}
+use mathlib.Core.Path.{◌≡◌, refl}
 use lib.ListN.{length}
 use Rattle.sheets.proofs.Rest.{mapped}
 use Rattle.book.specs.Book.{no_limit}
 use Rattle.image.specs.Places.{limit_words}
-use Rattle.image.specs.Words.{flat}
 use Rattle.image.specs.Image.{words_of_limit}
-use Rattle.image.proofs.Toward.{Toward, toward_start}
+use Rattle.image.proofs.Toward.{toward_start}
 use Rattle.image.proofs.Chunks.{put_next, put_end}
 use Rattle.image.proofs.limit_words.put_limits.Goals as goal
 

@@ -1,4 +1,3 @@
-use borrow.Author.Rules.{rules}
 use Rattle.image.specs.Image.{words_of_contract}
 use Rattle.image.proofs.Sets.{all_set}
 use Rattle.image.proofs.sheet_words.put_contract.Goals as goal

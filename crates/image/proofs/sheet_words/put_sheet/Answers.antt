@@ -1,13 +1,11 @@
-use borrow.Author.Rules.{rules}
 use native.Mathlib.Omega.{arith}
 use Prim.Native.Nat.{ℕ, ◌*◌, ◌≤◌}
-use mathlib.Core.Path.{◌≡◌, sym, ◌∙◌, ap}
+use mathlib.Core.Path.{◌≡◌, ◌∙◌}
 use mathlib.Core.List.{List, [], ◌∷◌, append-nil}
-use lib.ListN.{length, set, length-set, drop_of_length-le}
+use lib.ListN.{length, set, drop_of_length-le}
 use borrow.Rule.Slice.PartMut.{put_mid}
 use Rattle.image.specs.Places.{contract_words, sheet_words}
 use Rattle.image.specs.Image.{words_of_sheet}
-use Rattle.image.proofs.Lengths.{sheet_long}
 use Rattle.image.proofs.sheet_words.put_sheet.Goals as goal
 use Rattle.image.proofs.sheet_words.put_sheet.Goals.{After-slice_known-2-1}
 

@@ -1,17 +1,11 @@
-use borrow.Author.Rules.{rules}
-use native.Mathlib.Omega.{arith}
 use Prim.Native.Nat.{ℕ, ◌-◌, ◌*◌, ◌≤◌, ◌<◌}
-use mathlib.Core.Path.{◌≡◌, sym, ◌∙◌}
+use mathlib.Core.Path.{◌≡◌}
 use lib.ListN.{length, get_or}
-use borrow.Author.Count.{below_more}
-use Rattle.sheets.proofs.Rest.{mapped}
 use Rattle.book.specs.Book.{no_sheet}
 use Rattle.image.specs.Places.{sheet_words}
 use Rattle.image.specs.Words.{flat}
 use Rattle.image.specs.Image.{words_of_sheet}
-use Rattle.image.proofs.Toward.{Toward, toward_start}
-use Rattle.image.proofs.Chunks.{put_next, put_end}
-use Rattle.image.proofs.Lengths.{sheet_long}
+use Rattle.image.proofs.Toward.{Toward}
 use Rattle.image.proofs.sheet_words.put_sheets.Given as goal
 
 abbrev pub invariant-loop-p : goal.invariant-loop-p

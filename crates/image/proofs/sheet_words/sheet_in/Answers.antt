@@ -1,4 +1,3 @@
-use borrow.Author.Rules.{rules}
 use Rattle.image.specs.Image.{sheet_of}
 use Rattle.image.proofs.sheet_words.sheet_in.Goals as goal
 

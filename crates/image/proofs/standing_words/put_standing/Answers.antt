@@ -1,4 +1,3 @@
-use borrow.Author.Rules.{rules}
 use Rattle.image.specs.Image.{words_of_standing}
 use Rattle.image.proofs.Sets.{all_set}
 use Rattle.image.proofs.standing_words.put_standing.Goals as goal

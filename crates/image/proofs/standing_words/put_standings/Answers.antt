@@ -1,15 +1,14 @@
 use borrow.Author.Rules.{rules}
 use native.Mathlib.Omega.{arith}
-use Prim.Native.Nat.{◌-◌, ◌*◌, ◌≤◌}
-use mathlib.Core.Path.{◌≡◌, refl, sym, ◌∙◌}
+use Prim.Native.Nat.{◌*◌}
+use mathlib.Core.Path.{◌≡◌, refl}
 use lib.ListN.{length}
 use Rattle.record.specs.State.{group_count}
 use Rattle.sheets.proofs.Rest.{mapped}
 use Rattle.book.specs.Book.{no_standing}
 use Rattle.image.specs.Places.{standing_words}
-use Rattle.image.specs.Words.{flat}
 use Rattle.image.specs.Image.{words_of_standing}
-use Rattle.image.proofs.Toward.{Toward, toward_start}
+use Rattle.image.proofs.Toward.{toward_start}
 use Rattle.image.proofs.Chunks.{put_next, put_end}
 use Rattle.image.proofs.standing_words.put_standings.Goals as goal
 

@@ -1,14 +1,9 @@
-use borrow.Author.Rules.{rules}
-use native.Mathlib.Omega.{arith}
 use Prim.Native.Nat.{◌-◌, ◌≤◌}
-use mathlib.Core.Path.{refl, ◌∙◌}
 use Rattle.record.specs.State.{group_count}
-use Rattle.book.specs.Book.{no_standing}
 use Rattle.image.specs.Places.{standing_words}
 use Rattle.image.specs.Words.{chunks}
 use Rattle.image.specs.Image.{standing_of}
-use Rattle.image.proofs.Toward.{Toward, toward_start, toward_next, toward_end}
-use Rattle.image.proofs.Chunks.{chunks_long, chunk_lent}
+use Rattle.image.proofs.Toward.{Toward}
 use Rattle.image.proofs.standing_words.standings_in.Given as goal
 
 abbrev pub invariant-loop-g : goal.invariant-loop-g

@@ -1,4 +1,3 @@
-use borrow.Author.Rules.{rules}
 use Rattle.image.specs.Words.{flat}
 use Rattle.image.specs.Answers.{words_of_group_event}
 use Rattle.image.proofs.Lengths.{events_long}

@@ -1,4 +1,3 @@
-use borrow.Author.Rules.{rules}
 use Rattle.image.proofs.Puts.{filed_put}
 use Rattle.image.proofs.whole.write_filed.Goals as goal
 

@@ -1,11 +1,7 @@
-use borrow.Author.Rules.{rules}
-use native.Mathlib.Omega.{arith}
 use Prim.Native.Nat.{◌-◌, ◌≤◌}
-use mathlib.Core.Path.{◌≡◌, sym, ◌∙◌}
 use mathlib.Core.List.{map}
-use lib.ListN.{length, length-map, get_or-map}
 use Rattle.image.specs.Image.{count_word}
-use Rattle.image.proofs.Toward.{Toward, toward_start, toward_next, toward_end}
+use Rattle.image.proofs.Toward.{Toward}
 use Rattle.image.proofs.window_words.put_sizes.Given as goal
 
 abbrev pub invariant-loop-p : goal.invariant-loop-p

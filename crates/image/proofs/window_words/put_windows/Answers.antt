@@ -1,4 +1,3 @@
-use borrow.Author.Rules.{rules}
 use Prim.Native.Nat.{◌*◌}
 use Rattle.image.specs.Places.{windows_words}
 use Rattle.image.specs.Image.{words_of_windows}

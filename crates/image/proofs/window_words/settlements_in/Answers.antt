@@ -1,8 +1,7 @@
 use borrow.Author.Rules.{rules}
 use native.Mathlib.Omega.{arith}
-use Prim.Native.Nat.{◌-◌, ◌≤◌}
 use mathlib.Core.Path.{refl}
-use Rattle.image.proofs.Toward.{Toward, toward_start, toward_next, toward_end}
+use Rattle.image.proofs.Toward.{toward_start, toward_next, toward_end}
 use Rattle.image.proofs.window_words.settlements_in.Goals as goal
 
 pub loop-i-init : goal.loop-i-init

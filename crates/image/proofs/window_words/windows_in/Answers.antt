@@ -1,4 +1,3 @@
-use borrow.Author.Rules.{rules}
 use Rattle.image.specs.Image.{windows_of}
 use Rattle.image.proofs.window_words.windows_in.Goals as goal
 

@@ -1,4 +1,3 @@
-use borrow.Author.Rules.{rules}
 use native.Mathlib.Omega.{arith}
 use Rattle.record.proofs.TrueDays.{valid, day_small}
 use Rattle.opening.proofs.refusals.date_number.Goals as goal

@@ -1,7 +1,5 @@
-use borrow.Author.Rules.{rules}
 use mathlib.Core.Path.{◌≡◌, sym, ◌∙◌}
 use mathlib.Core.Bool.{false}
-use borrow.Author.Tests.{not-true, not-false}
 use Rattle.book.specs.Book.{is_no_day}
 use Rattle.opening.proofs.refusals.is_left_not_smaller.Goals as goal
 use Rattle.opening.proofs.refusals.is_left_not_smaller.Goals.{Else-is_no_day}

@@ -1,8 +1,6 @@
-use borrow.Author.Rules.{rules}
 use mathlib.Core.Path.{◌≡◌, sym, ◌∙◌}
 use mathlib.Core.Bool.{true}
 use mathlib.Core.List.{[], ◌∷◌}
-use borrow.Author.Tests.{not-true, not-false}
 use Rattle.record.specs.Refusals.{when, first, not_later, left_not_smaller}
 use Rattle.record.specs.Record.{opening, refusal}
 use Rattle.record.specs.Opening.{is_true_day, is_not_later, is_left_not_smaller}

@@ -1,9 +1,5 @@
-use borrow.Author.Rules.{rules}
 use mathlib.Core.Path.{◌≡◌, sym, ◌∙◌}
 use mathlib.Core.Bool.{true}
-use mathlib.Core.List.{[], ◌∷◌}
-use types.Run.{miss}
-use borrow.Author.Tests.{not-true, not-false}
 use Rattle.grain.specs.Amounts.{season_of, expanded_of}
 use Rattle.grain.specs.declared.margin.SeasonLimits.TheVariants.{Are}
 use Rattle.grain.proofs.Outcomes.{season_limits_same}

@@ -1,15 +1,9 @@
-use borrow.Author.Rules.{rules}
 use Prim.Native.Nat.{◌≤◌, ◌-◌}
 use lib.ListN.{get_or}
-use Rattle.grain.specs.Products.{product_count}
 use Rattle.windows.specs.Windows.{window_of}
 use Rattle.book.specs.Book.{no_limit}
-use Rattle.book.proofs.Filled.{Filled, filled_start, filled_next, filled_end, unfilled}
+use Rattle.book.proofs.Filled.{Filled}
 use Rattle.opening.specs.Opens.{limit_on}
-use Prim.Native.Nat.{◌<◌}
-use mathlib.Core.Path.{◌≡◌}
-use lib.ListN.{length}
-use Rattle.sheets.proofs.Rest.{mapped}
 use Rattle.opening.proofs.renewal.limits_on.Given as goal
 
 abbrev pub invariant-loop-p : goal.invariant-loop-p

@@ -1,13 +1,9 @@
 use borrow.Author.Rules.{rules}
-use Prim.Native.Nat.{◌≤◌, ◌-◌}
 use mathlib.Core.Path.{refl}
 use mathlib.Core.Bool.{false}
-use lib.ListN.{get_or}
 use Rattle.grain.specs.Products.{product_count}
-use Rattle.windows.specs.Windows.{window_of}
-use Rattle.book.proofs.Filled.{Filled, filled_start, filled_next, filled_end}
+use Rattle.book.proofs.Filled.{filled_start, filled_next, filled_end}
 use Rattle.book.proofs.Numbers.{values_are}
-use Rattle.opening.specs.Opens.{is_renewed_by}
 use Rattle.opening.proofs.renewal.renewed_on.Goals as goal
 
 pub loop-p-init : goal.loop-p-init

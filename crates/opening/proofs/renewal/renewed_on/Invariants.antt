@@ -1,12 +1,8 @@
-use borrow.Author.Rules.{rules}
 use Prim.Native.Nat.{◌≤◌, ◌-◌}
-use mathlib.Core.Path.{refl}
 use mathlib.Core.Bool.{false}
 use lib.ListN.{get_or}
-use Rattle.grain.specs.Products.{product_count}
 use Rattle.windows.specs.Windows.{window_of}
-use Rattle.book.proofs.Filled.{Filled, filled_start, filled_next, filled_end}
-use Rattle.book.proofs.Numbers.{values_are}
+use Rattle.book.proofs.Filled.{Filled}
 use Rattle.opening.specs.Opens.{is_renewed_by}
 use Rattle.opening.proofs.renewal.renewed_on.Given as goal
 

@@ -1,4 +1,3 @@
-use borrow.Author.Rules.{rules}
 use Rattle.opening.proofs.renewal.windows_on.Goals as goal
 
 pub returns-then-other : goal.returns-then-other

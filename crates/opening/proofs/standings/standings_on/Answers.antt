@@ -1,12 +1,10 @@
 use borrow.Author.Rules.{rules}
-use Prim.Native.Nat.{◌<◌, ◌≤◌, ◌-◌}
-use lib.ListN.{get_or}
+use Prim.Native.Nat.{◌<◌}
 use Rattle.grain.specs.Products.{product_count}
 use Rattle.record.specs.State.{group_count}
 use Rattle.record.proofs.GroupTable.{group_small}
 use Rattle.sheets.proofs.Rest.{mapped}
-use Rattle.book.specs.Book.{no_standing}
-use Rattle.opening.proofs.Starts.{StartedTo, started_first, started_next, started_all}
+use Rattle.opening.proofs.Starts.{started_first, started_next, started_all}
 use Rattle.opening.proofs.standings.standings_on.Goals as goal
 use Rattle.opening.proofs.standings.standings_on.Goals.{After-group_of-g}
 

@@ -1,12 +1,7 @@
-use borrow.Author.Rules.{rules}
 use native.Mathlib.Omega.{arith}
-use Prim.Native.Nat.{◌-◌, ◌≤◌}
-use mathlib.Core.Path.{◌≡◌, sym, ◌∙◌}
-use borrow.Author.Tests.{not-true, not-false}
-use lib.ListN.{drop}
-use Rattle.sheets.specs.Sheets.{entries_of, are_sound_contracts}
+use mathlib.Core.Path.{sym, ◌∙◌}
 use Rattle.sheets.proofs.Rest.{mapped}
-use Rattle.sheets.proofs.InOneLoop.{sound_from, sound_start, sound_fails, sound_goes_on, sound_end}
+use Rattle.sheets.proofs.InOneLoop.{sound_start, sound_fails, sound_goes_on, sound_end}
 use Rattle.sheets.proofs.Sheet.are_sound.Goals as goal
 
 pub loop-i-init : goal.loop-i-init

@@ -1,11 +1,7 @@
-use borrow.Author.Rules.{rules}
 use native.Mathlib.Omega.{arith}
-use Prim.Native.Nat.{◌-◌, ◌≤◌, min}
-use mathlib.Core.Path.{◌≡◌, refl, ◌∙◌}
+use Prim.Native.Nat.{min}
+use mathlib.Core.Path.{refl, ◌∙◌}
 use borrow.Author.Tests.{eq-eqb, ne_eqb}
-use lib.ListN.{drop}
-use Rattle.record.specs.State.{settlement_on}
-use Rattle.sheets.specs.Sheets.{entries_of}
 use Rattle.sheets.proofs.Rest.{mapped, rest_next, rest_end}
 use Rattle.sheets.proofs.Sheet.find.Goals as goal
 

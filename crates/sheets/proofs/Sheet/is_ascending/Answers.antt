@@ -1,11 +1,6 @@
-use borrow.Author.Rules.{rules}
 use native.Mathlib.Omega.{arith}
-use Prim.Native.Nat.{◌-◌, ◌≤◌}
-use mathlib.Core.Path.{◌≡◌, sym, ◌∙◌}
+use mathlib.Core.Path.{sym, ◌∙◌}
 use borrow.Author.Tests.{lt-ltb, le-ltb}
-use lib.ListN.{drop}
-use Rattle.grain.specs.Lists.{is_ascending}
-use Rattle.sheets.specs.Sheets.{entries_of, months_of}
 use Rattle.sheets.proofs.Rest.{mapped, ascending_next, ascending_end}
 use Rattle.sheets.proofs.Sheet.is_ascending.Goals as goal
 
@@ -17,13 +12,12 @@ returns-then-next-c c =
     ∙ rw (le-ltb _ _ c.if-next-c.true))
 
 pub loop-i-preserved : goal.loop-i-preserved
-loop-i-preserved c =
-    (
-      omega arith,
-      c.loop-i.invariant.1
-          ∙ ascending_next c.args.self c.loop-i.i _ (search mapped) c.reach-n.ensures (omega arith)
-          ∙ rw (lt-ltb _ _ c.if-next-c.false),
-    )
+loop-i-preserved c = (
+  omega arith,
+  c.loop-i.invariant.1
+      ∙ ascending_next c.args.self c.loop-i.i _ (search mapped) c.reach-n.ensures (omega arith)
+      ∙ rw (lt-ltb _ _ c.if-next-c.false),
+)
 
 pub returns : goal.returns
 returns c = sym (c.loop-i.invariant.1 ∙ ascending_end c.args.self c.loop-i.i _ (search mapped) c.reach-n.ensures (omega arith))

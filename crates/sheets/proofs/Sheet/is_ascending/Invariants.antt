@@ -1,12 +1,8 @@
-use borrow.Author.Rules.{rules}
-use native.Mathlib.Omega.{arith}
 use Prim.Native.Nat.{◌-◌, ◌≤◌}
-use mathlib.Core.Path.{◌≡◌, sym, ◌∙◌}
-use borrow.Author.Tests.{lt-ltb, le-ltb}
+use mathlib.Core.Path.{◌≡◌}
 use lib.ListN.{drop}
 use Rattle.grain.specs.Lists.{is_ascending}
 use Rattle.sheets.specs.Sheets.{entries_of, months_of}
-use Rattle.sheets.proofs.Rest.{mapped, ascending_next, ascending_end}
 use Rattle.sheets.proofs.Sheet.is_ascending.Given as goal
 
 abbrev pub invariant-loop-i : goal.invariant-loop-i

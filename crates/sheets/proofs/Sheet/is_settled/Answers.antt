@@ -1,12 +1,5 @@
-use borrow.Author.Rules.{rules}
 use native.Mathlib.Omega.{arith}
-use Prim.Native.Nat.{◌-◌, ◌≤◌}
-use mathlib.Core.Path.{◌≡◌, sym, ◌∙◌}
-use borrow.Author.Tests.{not-true, not-false}
-use Rattle.grain.specs.Prices.{is_settlement}
-use lib.ListN.{drop}
-use Rattle.grain.specs.Lists.{every}
-use Rattle.sheets.specs.Sheets.{entries_of, settlements_of}
+use mathlib.Core.Path.{sym, ◌∙◌}
 use Rattle.sheets.proofs.Rest.{mapped, every_fails, every_goes_on, every_end}
 use Rattle.sheets.proofs.Sheet.is_settled.Goals as goal
 

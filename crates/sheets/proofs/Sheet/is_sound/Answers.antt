@@ -1,4 +1,3 @@
-use borrow.Author.Rules.{rules}
 use borrow.Author.Tests.{lt-leb, eq-eqb, ne_eqb}
 use Rattle.grain.specs.Lists.{◌and◌}
 use Rattle.record.specs.Sound.{is_sound_sheet}

@@ -1,12 +1,6 @@
-use borrow.Author.Rules.{rules}
 use native.Mathlib.Omega.{arith}
-use Prim.Native.Nat.{◌-◌, ◌≤◌}
-use mathlib.Core.Path.{◌≡◌, sym, ◌∙◌}
-use lib.ListN.{drop}
-use Rattle.grain.specs.Lists.{any}
-use Rattle.grain.specs.Spot.{is_spot}
-use Rattle.record.specs.Sheet.{is_absent, lacks_contract}
-use Rattle.sheets.specs.Sheets.{entries_of}
+use mathlib.Core.Path.{sym, ◌∙◌}
+use Rattle.record.specs.Sheet.{lacks_contract}
 use Rattle.sheets.proofs.Rest.{mapped, any_holds, any_goes_on, any_end}
 use Rattle.sheets.proofs.Sheet.lacks_contract.Goals as goal
 
@@ -18,12 +12,11 @@ returns-then-is_absent c =
     ∙ any_holds c.args.last c.loop-i.i _ (search mapped) c.reach-n.ensures _ (omega arith) (sym c.is_absent.ensures ∙ c.if-is_absent.true))
 
 pub loop-i-preserved : goal.loop-i-preserved
-loop-i-preserved c =
-    (
-      omega arith,
-      c.loop-i.invariant.1
-          ∙ any_goes_on c.args.last c.loop-i.i _ (search mapped) c.reach-n.ensures _ (omega arith) (sym c.is_absent.ensures ∙ c.if-is_absent.false),
-    )
+loop-i-preserved c = (
+  omega arith,
+  c.loop-i.invariant.1
+      ∙ any_goes_on c.args.last c.loop-i.i _ (search mapped) c.reach-n.ensures _ (omega arith) (sym c.is_absent.ensures ∙ c.if-is_absent.false),
+)
 
 pub returns : goal.returns
 unfolding lacks_contract

@@ -1,13 +1,10 @@
-use borrow.Author.Rules.{rules}
-use native.Mathlib.Omega.{arith}
 use Prim.Native.Nat.{◌-◌, ◌≤◌}
-use mathlib.Core.Path.{◌≡◌, sym, ◌∙◌}
+use mathlib.Core.Path.{◌≡◌}
 use lib.ListN.{drop}
 use Rattle.grain.specs.Lists.{any}
 use Rattle.grain.specs.Spot.{is_spot}
-use Rattle.record.specs.Sheet.{is_absent, lacks_contract}
+use Rattle.record.specs.Sheet.{is_absent}
 use Rattle.sheets.specs.Sheets.{entries_of}
-use Rattle.sheets.proofs.Rest.{mapped, any_holds, any_goes_on, any_end}
 use Rattle.sheets.proofs.Sheet.lacks_contract.Given as goal
 
 abbrev pub invariant-loop-i : goal.invariant-loop-i

@@ -1,8 +1,7 @@
-use borrow.Author.Rules.{rules}
 use native.Mathlib.Omega.{arith}
-use Prim.Native.Nat.{◌-◌, ◌≤◌, ◌<◌, min}
+use Prim.Native.Nat.{◌<◌, min}
 use mathlib.Core.Path.{◌≡◌, sym, ◌∙◌}
-use lib.ListN.{length, take, length-set, length-take}
+use lib.ListN.{length, length-set, length-take}
 use Rattle.record.specs.Sheet.{contracts}
 use Rattle.sheets.specs.Sheets.{entries_of}
 use Rattle.sheets.proofs.Fills.{contracts-length, fill_next, take_reached}

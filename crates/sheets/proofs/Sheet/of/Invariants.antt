@@ -1,11 +1,7 @@
-use borrow.Author.Rules.{rules}
-use native.Mathlib.Omega.{arith}
-use Prim.Native.Nat.{◌-◌, ◌≤◌, ◌<◌, min}
-use mathlib.Core.Path.{◌≡◌, sym, ◌∙◌}
-use lib.ListN.{length, take, length-set, length-take}
+use Prim.Native.Nat.{◌-◌, ◌≤◌}
+use mathlib.Core.Path.{◌≡◌}
+use lib.ListN.{length, take}
 use Rattle.record.specs.Sheet.{contracts}
-use Rattle.sheets.specs.Sheets.{entries_of}
-use Rattle.sheets.proofs.Fills.{contracts-length, fill_next, take_reached}
 use Rattle.sheets.proofs.Sheet.of.Given as goal
 
 abbrev pub invariant-loop-i : goal.invariant-loop-i

@@ -1,12 +1,6 @@
-use borrow.Author.Rules.{rules}
 use native.Mathlib.Omega.{arith}
-use Prim.Native.Nat.{◌-◌, ◌≤◌}
-use mathlib.Core.Path.{◌≡◌, sym, ◌∙◌}
+use mathlib.Core.Path.{sym, ◌∙◌}
 use borrow.Author.Tests.{lt-leb, le-leb}
-use lib.Dec.{leb}
-use lib.ListN.{drop}
-use Rattle.grain.specs.Lists.{every}
-use Rattle.sheets.specs.Sheets.{entries_of, months_of}
 use Rattle.sheets.proofs.Rest.{mapped, every_fails, every_goes_on, every_end}
 use Rattle.sheets.proofs.Sheet.starts_from.Goals as goal
 
@@ -18,13 +12,12 @@ returns-then-c-month c =
     (lt-leb _ _ c.if-c-month.true))
 
 pub loop-i-preserved : goal.loop-i-preserved
-loop-i-preserved c =
-    (
-      omega arith,
-      c.loop-i.invariant.1
-          ∙ every_goes_on c.args.self c.loop-i.i _ (search mapped) c.reach-n.ensures _ (λ c. c.month) (omega arith)
-          (le-leb _ _ c.if-c-month.false),
-    )
+loop-i-preserved c = (
+  omega arith,
+  c.loop-i.invariant.1
+      ∙ every_goes_on c.args.self c.loop-i.i _ (search mapped) c.reach-n.ensures _ (λ c. c.month) (omega arith)
+      (le-leb _ _ c.if-c-month.false),
+)
 
 pub returns : goal.returns
 returns c = sym (c.loop-i.invariant.1 ∙ every_end c.args.self c.loop-i.i _ (search mapped) c.reach-n.ensures _ (λ c. c.month) (omega arith))

@@ -1,4 +1,3 @@
-use borrow.Author.Rules.{rules}
 use mathlib.Core.Path.{sym, ◌∙◌}
 use Rattle.record.specs.State.{settlement_on}
 use Rattle.sheets.specs.Sheets.{entries_of}

@@ -1,6 +1,4 @@
 use borrow.Author.Rules.{rules}
-use mathlib.Core.Path.{◌≡◌}
-use lib.Dec.{eqb}
 use Rattle.windows.proofs.Shown.{nothing_beyond, full_is}
 use Rattle.windows.proofs.Windows.is_full.Goals as goal
 

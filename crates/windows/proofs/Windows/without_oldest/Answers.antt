@@ -1,9 +1,8 @@
 use borrow.Author.Rules.{rules}
 use native.Mathlib.Omega.{arith}
-use Prim.Native.Nat.{◌≤◌, ◌-◌}
 use mathlib.Core.Path.{◌≡◌}
 use lib.ListN.{length}
-use Rattle.windows.proofs.Moves.{Moved, none_moved, one_more_moved, moved_size, all_moved}
+use Rattle.windows.proofs.Moves.{none_moved, one_more_moved, moved_size, all_moved}
 use Rattle.windows.proofs.Windows.without_oldest.Goals as goal
 
 pub loop-i-init : goal.loop-i-init

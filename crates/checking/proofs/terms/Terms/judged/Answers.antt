@@ -1,7 +1,5 @@
-use borrow.Author.Rules.{rules}
 use mathlib.Core.Path.{◌≡◌, sym, ◌∙◌}
 use mathlib.Core.Option.{some}
-use borrow.Author.Tests.{not-true, not-false}
 use Rattle.record.specs.Check.{listed}
 use Rattle.sheets.specs.Sheets.{entries_of}
 use Rattle.sheets.proofs.Lookups.{is_none, is_some}

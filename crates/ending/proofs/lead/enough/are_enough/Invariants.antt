@@ -1,16 +1,11 @@
-use borrow.Author.Rules.{rules}
-use native.Mathlib.Omega.{arith}
-use Prim.Native.Nat.{ℕ, ◌+◌, ◌-◌, ◌*◌, ◌≤◌}
-use mathlib.Core.Path.{◌≡◌, ◌∙◌, ap}
-use lib.Dec.{leb}
+use Prim.Native.Nat.{◌+◌, ◌-◌, ◌*◌, ◌≤◌}
+use mathlib.Core.Path.{◌≡◌}
 use lib.ListN.{length, drop}
 use Rattle.grain.specs.Products.{first_of}
 use Rattle.grain.specs.Spot.{is_spot}
 use Rattle.record.specs.State.{max_contracts}
 use Rattle.sheets.specs.Sheets.{contracts_of}
-use Rattle.sheets.proofs.Rest.{mapped, fitting_next, fitting_end}
 use Rattle.ending.specs.Search.{count_from}
-use Rattle.ending.proofs.Enough.{at_most_two}
 use Rattle.ending.proofs.lead.enough.are_enough.Given as goal
 
 abbrev pub invariant-loop-i : goal.invariant-loop-i

@@ -1,4 +1,3 @@
-use borrow.Author.Rules.{rules}
 use native.Mathlib.Omega.{arith}
 use mathlib.Core.Path.{◌≡◌, sym, ◌∙◌}
 use mathlib.Core.Bool.{cond}
@@ -26,12 +25,14 @@ counts k =
 
 -- on the last ended sheet: by how far it moved
 
-counts-change : (d : After-distance) → let a = d.args in
+counts_change : (d : After-distance) → let a = d.args in
     count_at (is_spot a.date) a.product a.initial (contracts_of a.last) a.more a.c
+    ≡ count_of a.product a.initial a.c (settlement_on (entries_of a.last) a.c.month)
+    → count_at (is_spot a.date) a.product a.initial (contracts_of a.last) a.more a.c
     ≡ cond (eqb d.distance.result a.initial) (cond (is_last_crop_month a.product a.c.month) 2 1) 0
-counts-change d =
+counts_change d counted_so =
     let a = d.args in
-    rw (counts d., is_some (settlement_on (entries_of a.last) a.c.month) _ (sym d.find.ensures ∙ d.in-At.is), d.distance.ensures)
+    rw (counted_so, is_some (settlement_on (entries_of a.last) a.c.month) _ (sym d.find.ensures ∙ d.in-At.is), d.distance.ensures)
 
 pub returns-then-is_spot : goal.returns-then-is_spot
 unfolding count_at
@@ -47,10 +48,10 @@ returns-in_default c =
     rw (counts (goal.at.returns-in_default c).After-find, is_none (settlement_on (entries_of a.last) a.c.month) (sym c.find.ensures ∙ c.in_default.is))
 
 pub returns-then-distance-initial : goal.returns-then-distance-initial
-returns-then-distance-initial c = rw (counts-change (goal.at.returns-then-distance-initial c).After-distance, ne_eqb _ _ c.if-distance-initial.true)
+returns-then-distance-initial c = rw (counts_change (goal.at.returns-then-distance-initial c).After-distance (counts (goal.at.returns-then-distance-initial c).After-find), ne_eqb _ _ c.if-distance-initial.true)
 
 pub returns-then-is_last_crop_month : goal.returns-then-is_last_crop_month
-returns-then-is_last_crop_month c = rw (counts-change (goal.at.returns-then-is_last_crop_month c).After-distance, eq-eqb _ _ c.if-distance-initial.false, sym c.is_last_crop_month.ensures ∙ c.if-is_last_crop_month.true)
+returns-then-is_last_crop_month c = rw (counts_change (goal.at.returns-then-is_last_crop_month c).After-distance (counts (goal.at.returns-then-is_last_crop_month c).After-find), eq-eqb _ _ c.if-distance-initial.false, sym c.is_last_crop_month.ensures ∙ c.if-is_last_crop_month.true)
 
 pub returns : goal.returns
-returns c = rw (counts-change (goal.at.returns c).After-distance, eq-eqb _ _ c.if-distance-initial.false, sym c.is_last_crop_month.ensures ∙ c.if-is_last_crop_month.false)
+returns c = rw (counts_change (goal.at.returns c).After-distance (counts (goal.at.returns c).After-find), eq-eqb _ _ c.if-distance-initial.false, sym c.is_last_crop_month.ensures ∙ c.if-is_last_crop_month.false)

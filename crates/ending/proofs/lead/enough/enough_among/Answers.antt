@@ -1,6 +1,5 @@
-use borrow.Author.Rules.{rules}
 use native.Mathlib.Omega.{arith}
-use Prim.Native.Nat.{ℕ, ◌+◌, ◌-◌, ◌≤◌, ◌<◌}
+use Prim.Native.Nat.{ℕ, ◌+◌, ◌≤◌, ◌<◌}
 use mathlib.Core.Path.{◌≡◌, refl, ◌∙◌}
 use mathlib.Core.Bool.{Bool, false}
 use mathlib.Core.List.{List}
@@ -10,16 +9,12 @@ use borrow.Author.Count.{below_more}
 use Rattle.grain.specs.Products.{product_count}
 use Rattle.book.specs.Book.{no_limit, no_sheet}
 use Rattle.ending.specs.Search.{are_enough_in}
+use Rattle.ending.proofs.lead.enough.enough_among.Invariants.{Told}
 use Rattle.ending.proofs.lead.enough.enough_among.Goals as goal
 
--- the products from lo to p are told
-
-abbrev Told : (ℕ → Bool) → ℕ → ℕ → List Bool → Type 0
-Told new lo p enough = (length enough ≡ product_count) × ((q : ℕ) → lo ≤ q → q < p → get_or enough q false ≡ new q)
-
-told-next : (new : ℕ → Bool) (lo p : ℕ) (enough : List Bool) (v : Bool) → p < product_count → v ≡ new p → Told new lo p enough
+told_next : (new : ℕ → Bool) (lo p : ℕ) (enough : List Bool) (v : Bool) → p < product_count → v ≡ new p → Told new lo p enough
     → Told new lo (p + 1) (set enough p v)
-told-next new lo p enough v l e told =
+told_next new lo p enough v l e told =
     let here : p < length enough = rw told.0 l in (
       length-set enough p v ∙ told.0,
       λ q k h.
@@ -40,7 +35,7 @@ pub loop-p-preserved : goal.loop-p-preserved
 loop-p-preserved c =
     let a = c.args in
     let new : ℕ → Bool = λ q. are_enough_in a.date q (get_or a.b.limits q no_limit).initial (get_or a.b.today q no_sheet) (get_or a.b.last q no_sheet) in
-    (omega arith, told-next new a.lo c.loop-p.p c.loop-p.enough c.are_enough.result (omega arith) c.are_enough.ensures c.loop-p.invariant.1)
+    (omega arith, told_next new a.lo c.loop-p.p c.loop-p.enough c.are_enough.result (omega arith) c.are_enough.ensures c.loop-p.invariant.1)
 
 pub returns : goal.returns
 returns c = λ p l h. c.loop-p.invariant.1.1 p l (omega arith)

@@ -1,11 +1,6 @@
-use borrow.Author.Rules.{rules}
 use native.Mathlib.Omega.{arith}
-use Prim.Native.Nat.{◌-◌, ◌≤◌}
-use mathlib.Core.Path.{◌≡◌, ◌∙◌}
-use lib.ListN.{drop}
-use Rattle.sheets.specs.Sheets.{contracts_of}
+use mathlib.Core.Path.{◌∙◌}
 use Rattle.sheets.proofs.Rest.{mapped, fitting_next, fitting_end}
-use Rattle.ending.specs.Search.{next_in}
 use Rattle.ending.proofs.lead.months.next_in.Goals as goal
 
 pub loop-i-preserved : goal.loop-i-preserved

@@ -1,10 +1,7 @@
-use borrow.Author.Rules.{rules}
-use native.Mathlib.Omega.{arith}
 use Prim.Native.Nat.{◌-◌, ◌≤◌}
-use mathlib.Core.Path.{◌≡◌, ◌∙◌}
+use mathlib.Core.Path.{◌≡◌}
 use lib.ListN.{drop}
 use Rattle.sheets.specs.Sheets.{contracts_of}
-use Rattle.sheets.proofs.Rest.{mapped, fitting_next, fitting_end}
 use Rattle.ending.specs.Search.{next_in}
 use Rattle.ending.proofs.lead.months.next_in.Given as goal
 

@@ -1,12 +1,7 @@
-use borrow.Author.Rules.{rules}
 use native.Mathlib.Omega.{arith}
-use Prim.Native.Nat.{◌+◌, ◌-◌, ◌≤◌}
-use mathlib.Core.Path.{◌≡◌, ◌∙◌}
-use lib.ListN.{drop}
-use Rattle.grain.specs.Spot.{is_spot}
-use Rattle.sheets.specs.Sheets.{contracts_of}
+use Prim.Native.Nat.{◌≤◌}
+use mathlib.Core.Path.{◌∙◌}
 use Rattle.sheets.proofs.Rest.{mapped, fitting_next, fitting_end}
-use Rattle.ending.specs.Search.{count_earlier}
 use Rattle.ending.proofs.Earlier.{at_most_one}
 use Rattle.ending.proofs.lead.moves.count_earlier.Goals as goal
 
