@@ -1,0 +1,7 @@
+use borrow.Author.Rules.{rules}
+use mathlib.Core.Path.{ap}
+use Rattle.grain.specs.declared.check.Span.{Span}
+use Rattle.gateway.proofs.spans.botskhela_bare_lowest.Goals as goal
+
+pub returns : goal.returns
+returns c = ap (λ (s : Span). s.lowest) c.bare_span-span.ensures
