@@ -5,7 +5,6 @@ use mathlib.Core.Bool.{Bool, true, false}
 use mathlib.Core.List.{List}
 use mathlib.Core.Option.{Option, some, none}
 use borrow.Author.Tests.{ne_eqb}
-use Rattle.record.specs.Refusals.{unsound}
 use Rattle.record.specs.State.{Record}
 use Rattle.record.specs.Founding.{Start}
 use Rattle.record.specs.Sound.{is_sound}

@@ -1,4 +1,3 @@
-use borrow.Author.Rules.{rules}
 use mathlib.Core.Path.{◌∙◌, ap}
 use Rattle.grain.specs.Bare.{bare_number}
 use Rattle.gateway.proofs.botskhela_bare_check.Goals as goal

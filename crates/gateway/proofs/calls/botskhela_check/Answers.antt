@@ -1,4 +1,3 @@
-use borrow.Author.Rules.{rules}
 use mathlib.Core.Path.{ap}
 use Rattle.gateway.specs.declared.spans.Spanned.{Spanned}
 use Rattle.gateway.proofs.calls.botskhela_check.Goals as goal

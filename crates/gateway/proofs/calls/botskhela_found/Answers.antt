@@ -1,4 +1,3 @@
-use borrow.Author.Rules.{rules}
 use Rattle.gateway.proofs.Leaves.{refused_founding, accepted_founding}
 use Rattle.gateway.proofs.calls.botskhela_found.Goals as goal
 

@@ -1,4 +1,3 @@
-use borrow.Author.Rules.{rules}
 use mathlib.Core.Path.{refl, subst}
 use borrow.Author.Tests.{eq-eqb}
 use Rattle.book.specs.declared.Book.{Book}

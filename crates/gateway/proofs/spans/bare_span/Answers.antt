@@ -1,4 +1,3 @@
-use borrow.Author.Rules.{rules}
 use mathlib.Core.Path.{sym, ◌∙◌}
 use Prim.Native.Nat.{◌<◌, ◌≤◌}
 use Rattle.grain.specs.Bare.{free, bare_answer, bare_check}

@@ -1,4 +1,3 @@
-use borrow.Author.Rules.{rules}
 use mathlib.Core.Path.{ap}
 use Rattle.grain.specs.declared.check.Span.{Span}
 use Rattle.gateway.proofs.spans.botskhela_bare_lowest.Goals as goal

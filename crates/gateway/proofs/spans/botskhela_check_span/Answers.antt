@@ -1,4 +1,3 @@
-use borrow.Author.Rules.{rules}
 use mathlib.Core.Path.{◌∙◌, ap, subst}
 use Rattle.book.specs.declared.Book.{Book}
 use Rattle.checking.specs.Checks.{Checks}

@@ -1,4 +1,3 @@
-use borrow.Author.Rules.{rules}
 use Rattle.gateway.proofs.spans.with_span.Goals as goal
 
 pub returns-in-Is : goal.returns-in-Is

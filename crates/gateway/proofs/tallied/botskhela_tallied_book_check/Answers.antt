@@ -1,4 +1,3 @@
-use borrow.Author.Rules.{rules}
 use Rattle.gateway.proofs.TallyWords.{answered, tallied}
 use Rattle.gateway.proofs.tallied.botskhela_tallied_book_check.Goals as goal
 
