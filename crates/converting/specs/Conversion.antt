@@ -1,9 +1,15 @@
 -- The conversion of a book from the edition of 2014 to that of 2023: nothing but its edition changes.
-use Rattle.std.specs.Prelude.{Bool, ◌&&◌, List, [], ◌∷◌, eqb}
+use Rattle.std.specs.Prelude.{ℕ, Bool, ◌&&◌, List, [], ◌∷◌, eqb}
+use Rattle.std.proofs.Math.Option.{Option}
 use Rattle.grain.specs.Lists.{any}
-use Rattle.record.specs.Refusals.{Test, when, wrong_phase, groupExpanded}
+use Rattle.record.specs.Refusals.{Test, when, wrong_phase}
 use Rattle.record.specs.State.{Group, Record}
 use Rattle.record.specs.Sound.{is_expanded}
+use Rattle.record.specs.Record.{refusal_by}
+
+-- conversion of a book under 2014 with an expanded group
+abbrev pub group_expanded : ℕ
+group_expanded = 18
 
 abbrev pub has_expanded : List Group → Bool
 has_expanded gs = any (λ g. is_expanded g.level) gs
@@ -12,5 +18,17 @@ has_expanded gs = any (λ g. is_expanded g.level) gs
 unfoldable pub conversion_tests : Record → List Test
 conversion_tests r =
     when r.common.is_open wrong_phase
-    ∷ when (eqb r.common.edition 2014 && has_expanded r.groups) groupExpanded
+    ∷ when (eqb r.common.edition 2014 && has_expanded r.groups) group_expanded
     ∷ []
+
+-- the number with which a conversion is refused
+abbrev pub conversion_refusal : Record → Option ℕ
+conversion_refusal r = refusal_by r (conversion_tests r)
+
+-- what an accepted conversion leaves
+abbrev pub converted : Record → Record
+converted r =
+    record {
+      common = record { edition = 2023; opened = r.common.opened; is_open = r.common.is_open };
+      groups = r.groups;
+    }

@@ -2,13 +2,15 @@
 #![tactic(auto)]
 
 ghost use Rattle.std.specs.Prelude.{◌≡◌};
-ghost use Rattle.converting.specs.Converts.{under2023, Converts};
+ghost use Rattle.converting.specs.Converts.{with_2023, Converts};
 
-use book::{Book, EDITION_2023};
+use book::Book;
 
 mod refusals;
 
 use refusals::refusal_of;
+
+const EDITION_2023: u32 = 2023;
 
 #[derive(Clone, Copy)]
 pub struct Converted {
@@ -19,7 +21,7 @@ pub struct Converted {
 
 // Nothing but the edition changes; a book under 2023 stays as it is.
 fn under_2023(b: Book) -> Book
-    ensures { result ≡ under2023 b }
+    ensures { result ≡ with_2023 b }
 {
     let mut next = b;
     next.edition = EDITION_2023;

@@ -2,13 +2,15 @@
 ghost use Rattle.std.specs.Prelude.{◌≡◌, not, get_or};
 ghost use Rattle.grain.specs.Lists.{every};
 ghost use Rattle.record.specs.Choices.{or_else};
-ghost use Rattle.record.specs.Record.{convert, change, refusal};
 ghost use Rattle.book.specs.Book.{no_standing, view};
 ghost use Rattle.book.specs.Numbers.{all_groups};
+ghost use Rattle.converting.specs.Conversion.{conversion_refusal};
 
 use book::{Book, EDITION_2014, Standing};
 use record::GROUP_COUNT;
-use record::refusals::{GROUP_EXPANDED, UNSOUND, WRONG_PHASE};
+use record::refusals::{UNSOUND, WRONG_PHASE};
+
+const GROUP_EXPANDED: u32 = 18;
 
 fn are_all_initial(standings: [Standing; GROUP_COUNT]) -> bool
     ensures { result ≡ every (λ g. not (get_or standings g no_standing).expanded) all_groups }
@@ -24,7 +26,7 @@ fn are_all_initial(standings: [Standing; GROUP_COUNT]) -> bool
 
 // 0 where nothing refuses it.
 pub(crate) fn refusal_of(b: Book) -> u32
-    ensures { result ≡ or_else (refusal (view b) (change convert)) 0 }
+    ensures { result ≡ or_else (conversion_refusal (view b)) 0 }
 {
     if !b.is_sound() {
         return UNSOUND;
