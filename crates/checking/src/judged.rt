@@ -1,6 +1,6 @@
 // What one month and price get on the terms of a check.
 ghost use Rattle.std.specs.Prelude.{◌≡◌};
-ghost use Rattle.record.specs.Check.{listed as listedOn};
+ghost use Rattle.record.specs.Check.{listed as listed_on};
 ghost use Rattle.record.specs.Record.{order_answer};
 ghost use Rattle.sheets.specs.Sheets.{entries_of, listed_as};
 ghost use Rattle.checking.specs.Checks.{checked_as};
@@ -15,7 +15,7 @@ use sheets::Listed;
 impl Terms {
     // The settlement that a check takes: of the last ended day, of a month that is not before the open day's.
     fn listed(self, month: u32) -> Listed
-        ensures { result ≡ listed_as (listedOn self.date (entries_of self.last) month) }
+        ensures { result ≡ listed_as (listed_on self.date (entries_of self.last) month) }
     {
         let date = self.date;
         if month < date.month {

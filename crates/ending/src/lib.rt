@@ -4,7 +4,7 @@
 ghost use Rattle.std.specs.Prelude.{◌≡◌, true};
 ghost use Rattle.record.specs.State.{trade_date};
 ghost use Rattle.record.specs.Opening.{is_true_day};
-ghost use Rattle.record.specs.Record.{answer, next as nextState, end as call, ended as answered};
+ghost use Rattle.record.specs.Record.{answer, next as next_state, end as call, ended as answered};
 ghost use Rattle.record.specs.Sound.{is_sound};
 ghost use Rattle.book.specs.Book.{view};
 ghost use Rattle.ending.specs.Ends.{events_of, refused_by, Ends};
@@ -69,7 +69,7 @@ pub fn end(b: Book) -> Ended
 // What an accepted end leaves. Events are by the levels, limits and marks before it; today's sheets become the last ended ones.
 fn accepted(b: Book, date: TradeDate) -> Ended
     requires { (is_sound (view b) ≡ true) × (is_true_day b.day ≡ true) × (date ≡ trade_date b.day) }
-    ensures { (result.refusal ≡ 0) × (answered (events_of result.events) ≡ answer (view b) call) × (view result.book ≡ nextState (view b) call) }
+    ensures { (result.refusal ≡ 0) × (answered (events_of result.events) ≡ answer (view b) call) × (view result.book ≡ next_state (view b) call) }
 {
     let events = events_of(b, date);
     let mut next = b;

@@ -5,7 +5,7 @@ ghost use Rattle.std.specs.Prelude.{◌≡◌, List, ℕ, ◌<◌};
 ghost use Rattle.std.proofs.Math.Option.{some};
 ghost use Rattle.grain.specs.Products.{product_count};
 ghost use Rattle.record.specs.Sheet.{contracts};
-ghost use Rattle.record.specs.Record.{next as nextState, sheet as call};
+ghost use Rattle.record.specs.Record.{next as next_state, sheet as call};
 ghost use Rattle.sheets.specs.Sheets.{sheet_in};
 ghost use Rattle.book.specs.Book.{view};
 ghost use Rattle.filing.specs.Files.{Files};
@@ -60,7 +60,7 @@ pub fn sheet(b: Book, product: u32, months: &[u32], settlements: &[u32]) -> File
 
 fn with_sheet(b: Book, p: usize, s: Sheet) -> Book
     requires { p < product_count }
-    ensures { (ms ss : List ℕ) → sheet_in s ≡ some (contracts ms ss) → view result ≡ nextState (view b) (call p ms ss) }
+    ensures { (ms ss : List ℕ) → sheet_in s ≡ some (contracts ms ss) → view result ≡ next_state (view b) (call p ms ss) }
 {
     let mut todays = b.today;
     todays[p] = s;

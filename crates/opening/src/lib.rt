@@ -3,7 +3,7 @@
 
 ghost use Rattle.std.specs.Prelude.{◌≡◌, true};
 ghost use Rattle.record.specs.Opening.{is_true_day};
-ghost use Rattle.record.specs.Record.{answer, next as nextState, opening as call, opened as answered};
+ghost use Rattle.record.specs.Record.{answer, next as next_state, opening as call, opened as answered};
 ghost use Rattle.record.specs.Sound.{is_sound};
 ghost use Rattle.book.specs.Book.{view};
 ghost use Rattle.opening.specs.Opens.{day_on, Opens};
@@ -55,7 +55,7 @@ pub fn opening(b: Book, year: u32, month: u32, day: u32, left: u32) -> Opened
 // What an accepted opening leaves: new limits, with them the initial level, then the emptying of windows; sheets stay.
 fn accepted(b: Book, d: Day) -> Opened
     requires { (is_sound (view b) ≡ true) × (is_true_day d ≡ true) }
-    ensures { (result.refusal ≡ 0) × (answered result.renewed ≡ answer (view b) (call d)) × (view result.book ≡ nextState (view b) (call d)) }
+    ensures { (result.refusal ≡ 0) × (answered result.renewed ≡ answer (view b) (call d)) × (view result.book ≡ next_state (view b) (call d)) }
 {
     let last = b.day;
     let w = b.windows;

@@ -1,6 +1,6 @@
 // The counts of a tally: whether it takes one more check, and one more check.
 ghost use Rattle.std.specs.Prelude.{◌≡◌};
-ghost use Rattle.tally.specs.Tally.{sum_of, tally_refusal, one_more, counted as countedIn};
+ghost use Rattle.tally.specs.Tally.{sum_of, tally_refusal, one_more, counted as counted_in};
 
 use crate::{Kind, TALLY_FULL, Tally};
 use grain::refusals::UNSOUND;
@@ -58,7 +58,7 @@ fn one_more(t: Tally, kind: Kind) -> Tally
 
 // A tally that refuses stays as it is.
 pub fn counted(t: Tally, kind: Kind) -> Tally
-    ensures { result ≡ countedIn t kind }
+    ensures { result ≡ counted_in t kind }
 {
     if refusal(t) != 0 {
         return t;
@@ -68,7 +68,7 @@ pub fn counted(t: Tally, kind: Kind) -> Tally
 
 // The thin function: one more asked and one more of the kind, in place.
 pub fn count(t: &mut Tally, kind: Kind)
-    ensures { t.new ≡ countedIn t.old kind }
+    ensures { t.new ≡ counted_in t.old kind }
 {
     *t = counted(*t, kind);
 }

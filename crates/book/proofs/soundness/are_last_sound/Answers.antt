@@ -14,13 +14,13 @@ use Rattle.book.proofs.soundness.are_last_sound.Goals as goal
 
 -- the last ended sheets are all there, with a date
 
-abbrev areThere : Day → List Sheet → Bool
-areThere d last = is_some (opened_of d) and every (λ p. is_some (sheet_in (get_or last p no_sheet))) all_products
+abbrev are_there : Day → List Sheet → Bool
+are_there d last = is_some (opened_of d) and every (λ p. is_some (sheet_in (get_or last p no_sheet))) all_products
 
 pub returns-then-are_all_missing : goal.returns-then-are_all_missing
 returns-then-are_all_missing c =
     let a = c.args in
-    sym (second_holds (areThere a.d a.lasts) _ (sym c.are_all_missing.ensures ∙ c.if-are_all_missing.true))
+    sym (second_holds (are_there a.d a.lasts) _ (sym c.are_all_missing.ensures ∙ c.if-are_all_missing.true))
 
 pub returns-then-is_no_day : goal.returns-then-is_no_day
 unfolding ◌and◌
