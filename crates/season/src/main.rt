@@ -1,11 +1,13 @@
 // Reads a season file from standard input and writes the product with its season limits, or the refusal.
 #![tactic(auto)]
 
+ghost use Rattle.std.specs.Prelude.{◌≤◌, length, IfOk};
 ghost use Rattle.season.specs.SeasonFile.{season_line};
 ghost use Rattle.season.specs.LineText.{line_text, Holds};
 
 use grain::WINDOW_LENGTH;
-use libc::{STDIN_FILENO, STDOUT_FILENO};
+use std::io;
+use std::io::Read;
 
 mod file;
 mod text;
@@ -22,11 +24,26 @@ fn answer_to(file: &[u8]) -> Text
     text::text_of(file::line_of(file))
 }
 
+// Reads until the buffer is full or the input ends, and answers how many bytes it put at the start of the buffer.
+fn read_full<R: Read>(input: &mut R, buffer: &mut [u8]) -> io::Result<usize>
+    ensures { IfOk result (λ n. n ≤ length buffer.new) }
+{
+    let mut done = 0;
+    while done < buffer.len() {
+        let n = input.read(&mut buffer[done..])?;
+        if n == 0 {
+            return Ok(done);
+        }
+        done += n;
+    }
+    Ok(done)
+}
+
 // One byte more than a season file has tells a longer input; proofs/Reading.antt shows that no further byte counts.
-fn main() {
+fn main(rt: HostRuntime) -> io::Result<()> {
     let mut buffer = [0u8; FILE_BYTES + 1];
-    let n = io::read_full(STDIN_FILENO, &mut buffer);
+    let n = read_full(&mut rt.stdin(), &mut buffer)?;
     let answer = answer_to(&buffer[..n]);
     let bytes = answer.bytes;
-    io::write_all(STDOUT_FILENO, &bytes[..answer.len]);
+    rt.write_all(&bytes[..answer.len])
 }
