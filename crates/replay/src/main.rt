@@ -2,7 +2,7 @@
 #![tactic(auto)]
 
 use crate::line::ENTRIES;
-use libc::STDIN_FILENO;
+use std::io::{Read, Result, Stdin};
 
 mod asked;
 mod changes;
@@ -82,42 +82,53 @@ struct Went {
 
 // One read, and what it brought. Keeping the loop out of it keeps its proof small.
 fn turn(
+    stdin: &mut Stdin,
     r: Reading,
     numbers: &mut Numbers,
     months: &mut Entries,
     settlements: &mut Entries,
     out: &mut Buffer,
-) -> Went {
+) -> Result<Went> {
     let mut buffer = io::large_buffer();
-    let got = libc::read(STDIN_FILENO, &mut buffer);
-    if got <= 0 {
+    let n = stdin.read(&mut buffer)?;
+    if n == 0 {
         let last = read_block(r, b"\n", numbers, months, settlements, out);
-        return Went {
+        return Ok(Went {
             reading: last,
             on: false,
-        };
+        });
     }
-    let n = io::count(got, &buffer);
     let reading = read_block(r, &buffer[..n], numbers, months, settlements, out);
-    Went { reading, on: true }
+    Ok(Went { reading, on: true })
 }
 
 // Reads until the input ends. A proved loop has to end, so it counts its turns down from a number that no run uses up.
-fn main() {
-    let mut out = io::large_buffer();
+// What is answered goes out before a read that failed is told.
+fn main(rt: HostRuntime) -> Result<()> {
+    let mut stdin = rt.stdin();
+    let mut out = text::new_buffer(rt.stdout());
     let mut numbers = [0u32; MOST_NUMBERS];
     let mut months = [0u32; ENTRIES];
     let mut settlements = [0u32; ENTRIES];
     let mut r = start();
     let mut turns = u64::MAX;
     while turns > 0 {
-        let t = turn(r, &mut numbers, &mut months, &mut settlements, &mut out);
-        r = t.reading;
-        if !t.on {
-            let s = r.state;
-            text::flush(&mut out, s.at);
-            return;
+        let s = r.state;
+        match turn(&mut stdin, r, &mut numbers, &mut months, &mut settlements, &mut out) {
+            Ok(t) => {
+                r = t.reading;
+                if !t.on {
+                    let s = r.state;
+                    return text::flush(&mut out, s.at);
+                }
+                text::written(&out)?;
+            }
+            Err(e) => {
+                text::flush(&mut out, s.at)?;
+                return Err(e);
+            }
         }
         turns -= 1;
     }
+    Ok(())
 }

@@ -4,7 +4,7 @@ mod output;
 mod replies;
 mod whole;
 
-pub use output::Buffer;
-pub(crate) use output::{flush, put};
+pub use output::{Buffer, new_buffer};
+pub(crate) use output::{flush, put, written};
 pub(crate) use replies::{put_events, put_refusal, put_renewed, put_verdict};
 pub(crate) use whole::put_book;

@@ -1,29 +1,58 @@
 // What is written is collected in a lent buffer, of which the first `at` bytes are taken, and goes out whenever that is full.
-use libc::STDOUT_FILENO;
+use std::io::{Error, Stdout};
 
-pub type Buffer = [u8; 65536];
+// Beside its bytes it keeps where they go, and the first write that failed, after which no more are written.
+#[derive(Drop)]
+pub struct Buffer {
+    bytes: [u8; 65536],
+    stdout: Stdout,
+    failed: Option<Error>,
+}
 
-fn write_first(out: &[u8], n: usize) {
-    if n < out.len() {
-        io::write_all(STDOUT_FILENO, &out[..n]);
+// Nothing is taken.
+pub fn new_buffer(stdout: Stdout) -> Buffer {
+    Buffer {
+        bytes: io::large_buffer(),
+        stdout,
+        failed: None,
+    }
+}
+
+fn write_first(out: &mut Buffer, n: usize) {
+    if out.failed.is_some() {
         return;
     }
-    io::write_all(STDOUT_FILENO, out);
+    let bytes: &[u8] = &out.bytes;
+    let written = if n < bytes.len() {
+        out.stdout.write_all(&bytes[..n])
+    } else {
+        out.stdout.write_all(bytes)
+    };
+    out.failed = written.err();
+}
+
+// The first write that failed, if one did.
+pub(crate) fn written(out: &Buffer) -> std::io::Result<()> {
+    match out.failed {
+        Some(e) => Err(e),
+        None => Ok(()),
+    }
 }
 
 // Writes what is collected, after which nothing is.
-pub(crate) fn flush(out: &mut Buffer, at: usize) {
+pub(crate) fn flush(out: &mut Buffer, at: usize) -> std::io::Result<()> {
     write_first(out, at);
+    written(out)
 }
 
 // This and those that follow answer how many bytes are taken then.
 pub(crate) fn put_byte(out: &mut Buffer, at: usize, b: u8) -> usize {
     if at < 65536 {
-        out[at] = b;
+        out.bytes[at] = b;
         return at + 1;
     }
     write_first(out, at);
-    out[0] = b;
+    out.bytes[0] = b;
     1
 }
 
