@@ -113,18 +113,23 @@ fn main(rt: HostRuntime) -> Result<()> {
     let mut r = start();
     let mut turns = u64::MAX;
     while turns > 0 {
-        let s = r.state;
-        match turn(&mut stdin, r, &mut numbers, &mut months, &mut settlements, &mut out) {
+        match turn(
+            &mut stdin,
+            r,
+            &mut numbers,
+            &mut months,
+            &mut settlements,
+            &mut out,
+        ) {
             Ok(t) => {
                 r = t.reading;
                 if !t.on {
-                    let s = r.state;
-                    return text::flush(&mut out, s.at);
+                    return text::flush(&mut out, r.state.at);
                 }
                 text::written(&out)?;
             }
             Err(e) => {
-                text::flush(&mut out, s.at)?;
+                text::flush(&mut out, r.state.at)?;
                 return Err(e);
             }
         }
