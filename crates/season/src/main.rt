@@ -1,13 +1,14 @@
 // Reads a season file from standard input and writes the product with its season limits, or the refusal.
 #![tactic(auto)]
 
-ghost use Rattle.std.specs.Prelude.{◌≤◌, length, IfOk};
+ghost use Rattle.std.specs.Prelude.{◌<◌, ◌≤◌, length, take, IfOk, IfSome, OnOk};
+ghost use Rattle.std.specs.Io.KnownBytes.{Appends, Consumes, IsAtEnd};
 ghost use Rattle.season.specs.SeasonFile.{season_line};
 ghost use Rattle.season.specs.LineText.{line_text, Holds};
 
 use grain::WINDOW_LENGTH;
 use std::io;
-use std::io::Read;
+use std::io::{Read, Write};
 
 mod file;
 mod text;
@@ -26,7 +27,9 @@ fn answer_to(file: &[u8]) -> Text
 
 // Reads until the buffer is full or the input ends, and answers how many bytes it put at the start of the buffer.
 fn read_full<R: Read>(input: &mut R, buffer: &mut [u8]) -> io::Result<usize>
-    ensures { IfOk result (λ n. n ≤ length buffer.new) }
+    ensures within { IfOk result (λ n. n ≤ length buffer.new) }
+    ensures bytes { IfOk result (λ n. Consumes (R.remaining input.old) (R.remaining input.new) (take n buffer.new)) }
+    ensures end { IfOk result (λ n. n < length buffer.new → IsAtEnd (R.remaining input.new)) }
 {
     let mut done = 0;
     while done < buffer.len() {
@@ -39,11 +42,18 @@ fn read_full<R: Read>(input: &mut R, buffer: &mut [u8]) -> io::Result<usize>
     Ok(done)
 }
 
+// Reads the file that the input has left, and puts its line on the output.
 // One byte more than a season file has tells a longer input; proofs/Reading.antt shows that no further byte counts.
-fn main(rt: HostRuntime) -> io::Result<()> {
+fn run<R: Read, W: Write>(input: &mut R, output: &mut W) -> io::Result<()>
+    ensures { OnOk result (IfSome (R.remaining input.old) (λ file. Appends (W.contents output.old) (W.contents output.new) (line_text (season_line file)))) }
+{
     let mut buffer = [0u8; FILE_BYTES + 1];
-    let n = read_full(&mut rt.stdin(), &mut buffer)?;
+    let n = read_full(input, &mut buffer)?;
     let answer = answer_to(&buffer[..n]);
     let bytes = answer.bytes;
-    rt.write_all(&bytes[..answer.len])
+    output.write_all(&bytes[..answer.len])
+}
+
+fn main(rt: HostRuntime) -> io::Result<()> {
+    run(&mut rt.stdin(), &mut rt.stdout())
 }
