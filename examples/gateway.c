@@ -2,7 +2,7 @@
  * A small gateway: reads orders from standard input, accepts or rejects each, and prints its tally at the end. Of an order
  * beyond its limit it says from which price to which it could have been sent.
  *
- *     gcc -Iinclude examples/gateway.c target/staticlib/libgateway.a -o gateway
+ *     gcc -Iinclude examples/gateway.c crates/gateway/out/libgateway.a -o gateway
  *     ./gateway < examples/orders.txt
  *
  * An order is a line PRODUCT SIZE SETTLEMENT AMOUNT SPOT PRICE of decimal numbers.
