@@ -52,7 +52,8 @@ pub extern "C" fn botskhela_open(
     ensures { RespondsImage words.old (opening (day_on year month day left)) result words.new }
 {
     let opened = opening::opening(book_in(words), year, month, day, left);
-    if opened.refusal != 0 {
+    let is_refused = opened.refusal != 0;
+    if is_refused {
         return opened.refusal;
     }
     let next = opened.book;

@@ -18,7 +18,8 @@ fn is_image(w: &[u32]) -> bool
     requires { length w.now ≡ at.words }
     ensures { result ≡ is_image w.now }
 {
-    if w[places::FORMAT] != places::FORMAT_NUMBER {
+    let is_other_format = w[places::FORMAT] != places::FORMAT_NUMBER;
+    if is_other_format {
         return false;
     }
     if 1 < w[places::IS_OPEN] {

@@ -16,8 +16,8 @@ responds o =
     let d = day_on a.year a.month a.day a.left in
     (subst (λ (b : Book). Opens b d o.opening-opened.result) o.book_in.ensures o.opening-opened.ensures).responds
 
-pub returns-then-opened-ne0 : goal.returns-then-opened-ne0
-returns-then-opened-ne0 c = refused_image c.args.words.now _ _ _ _ c.if-opened-ne0.true (responds (goal.at.returns-then-opened-ne0 c).After-opening-opened)
+pub returns-then-is_refused : goal.returns-then-is_refused
+returns-then-is_refused c = refused_image c.args.words.now _ _ _ _ c.if-is_refused.true (responds (goal.at.returns-then-is_refused c).After-opening-opened)
 
 pub returns : goal.returns
-returns c = accepted_image c.args.words.now _ _ _ refl (rw (eq-eqb _ 0 c.if-opened-ne0.false) at (responds (goal.at.returns c).After-opening-opened)) _ _ _ refl refl refl c.put_opened.ensures
+returns c = accepted_image c.args.words.now _ _ _ refl (rw (eq-eqb _ 0 c.if-is_refused.false) at (responds (goal.at.returns c).After-opening-opened)) _ _ _ refl refl refl c.put_opened.ensures
