@@ -1,7 +1,7 @@
 #!/usr/bin/env python3
 """Brings the definitions and lemmas of this repository to the spelling of today's Rattle.
 
-usage: python3 tools/respell.py [--dry]      at the top of the repository, once, after /opt/rattle/port/port.py
+usage: python3 tools/respell.py [--dry]      at the top of the repository, once, after port.py of the kit
 
 A word of several parts is in snake case (isLeap becomes is_leap). In a lemma's name a dash stays between two names that are
 themselves defined, and is '_' before or after a plain word (group-is becomes group_is). Types, modules, functions of src/, exported
