@@ -1,14 +1,14 @@
 -- Facts of the product table, each computed over the eight products at once.
-use Prim.Native.Nat.{ℕ, ◌+◌, ◌*◌, ◌^◌, ◌<◌, ◌≤◌}
+use Prim.Native.Nat.{ℕ, ◌^◌, ◌<◌, ◌≤◌}
 use mathlib.Core.Path.{◌≡◌, refl}
-use mathlib.Core.List.{List, [], ◌∷◌}
+use mathlib.Core.List.{List}
 use mathlib.Core.Bool.{Bool, true, false, cond}
 use native.Mathlib.Nat.{zero-mul}
 use mir.Syntax.{w32}
 use mir.Val.{Fits}
 use lib.Dec.{ltb, leb, eqb}
 use lib.ListN.{length, get_or, get_or-eq_default}
-use borrow.Author.Tests.{ltb-true, leb-true, eqb-true}
+use borrow.Author.Tests.{ltb-true, leb-true}
 use Rattle.grain.specs.Products.{steps, floors, standard_ticks, mini_ticks, step_of, floor_of, tick_of}
 use Rattle.grain.specs.Amounts.{expanded_by, expanded_of}
 use Rattle.grain.proofs.Below.{below, all_below}
@@ -39,18 +39,6 @@ pub tick_beyond : (p size : ℕ) → 8 ≤ p → tick_of p size ≡ 0
 unfolding tick_of standard_ticks mini_ticks
 tick_beyond p size l =
     no_tick (eqb size 0) (eqb size 1) _ _ (beyond standard_ticks p refl l) (beyond mini_ticks p refl l)
-
--- the table's ticks of both sizes in one list
-abbrev pub ticks : List ℕ
-ticks = 2 ∷ 2 ∷ 1 ∷ 1 ∷ 2 ∷ 2 ∷ 2 ∷ 1 ∷ 1 ∷ 1 ∷ 0 ∷ 0 ∷ 1 ∷ 0 ∷ 0 ∷ 0 ∷ []
-
-abbrev is_tick : ℕ → ℕ → Bool
-is_tick size p = eqb (get_or ticks (8 * size + p) 0) (tick_of p size)
-
-pub tick_in : (p size : ℕ) → p < 8 → size < 2 → get_or ticks (8 * size + p) 0 ≡ tick_of p size
-unfolding tick_of standard_ticks mini_ticks
-tick_in p size l h =
-    eqb-true _ _ (below 8 (is_tick size) (below 2 (λ size. all_below 8 (is_tick size)) refl size h) p l)
 
 pub expanded_beyond : (p i : ℕ) → 8 ≤ p → expanded_of p i ≡ 0
 unfolding expanded_by steps

@@ -3,7 +3,7 @@ use Prim.Native.Nat.{ℕ, ◌+◌}
 use mathlib.Core.Path.{◌≡◌, refl}
 use mathlib.Core.Bool.{Bool, true, false, cond}
 use mathlib.Core.List.{[], ◌∷◌, map}
-use Rattle.grain.specs.Lists.{sum}
+use Rattle.std.specs.Prelude.{sum}
 use Rattle.grain.specs.Dates.{is_leap, month_length, is_date}
 
 pub record DateCases : Type 0 where
@@ -66,9 +66,9 @@ date_cases =
 -- the twelve months of any year make up its days
 pub year-length : (year : ℕ)
     → sum (map (month_length year) (1 ∷ 2 ∷ 3 ∷ 4 ∷ 5 ∷ 6 ∷ 7 ∷ 8 ∷ 9 ∷ 10 ∷ 11 ∷ 12 ∷ [])) ≡ cond (is_leap year) 366 365
-unfolding sum month_length
+unfolding month_length
 year-length year = go (is_leap year)
   where
-    go : (leap : Bool) → 31 + (cond leap 29 28 + 306) ≡ cond leap 366 365
+    go : (leap : Bool) → 31 + (cond leap 29 28) + 31 + 30 + 31 + 30 + 31 + 31 + 30 + 31 + 30 + 31 ≡ cond leap 366 365
     go true = refl
     go false = refl

@@ -4,7 +4,8 @@ use mathlib.Core.Path.{◌≡◌, refl, ap₂}
 use mathlib.Core.Bool.{Bool, true, false, ◌||◌}
 use mathlib.Core.List.{List, [], ◌∷◌, ◌++◌, map}
 use lib.ListN.{drop}
-use Rattle.grain.specs.Lists.{◌and◌, every, any}
+use Rattle.std.specs.List.{list_any}
+use Rattle.grain.specs.Lists.{◌and◌, every}
 use Rattle.grain.proofs.Tests.{and_left, and_right, both, neither}
 
 module _ {A B : Type 0} (f : A → Bool) (g : A → B) (h : B → Bool) where
@@ -18,14 +19,14 @@ module _ {A B : Type 0} (f : A → Bool) (g : A → B) (h : B → Bool) where
   every_mapped e [] = refl
   every_mapped e (x ∷ l) = ap₂ ◌and◌ (e x) (every_mapped e l)
 
-  pub any_mapped : ((x : A) → h (g x) ≡ f x) → (l : List A) → any h (map g l) ≡ any f l
+  pub any_mapped : ((x : A) → h (g x) ≡ f x) → (l : List A) → list_any h (map g l) ≡ list_any f l
   any_mapped e [] = refl
   any_mapped e (x ∷ l) = ap₂ ◌||◌ (e x) (any_mapped e l)
 
-  pub every_unless : ((x : A) → f x ≡ false → h (g x) ≡ true) → (l : List A) → any f l ≡ false → every h (map g l) ≡ true
+  pub every_unless : ((x : A) → f x ≡ false → h (g x) ≡ true) → (l : List A) → list_any f l ≡ false → every h (map g l) ≡ true
   unfolding every
   every_unless e [] t = refl
-  every_unless e (x ∷ l) t = let n = neither (f x) (any f l) t in both _ _ (e x n.0) (every_unless e l n.1)
+  every_unless e (x ∷ l) t = let n = neither (f x) (list_any f l) t in both _ _ (e x n.0) (every_unless e l n.1)
 
 module _ {A : Type 0} (f : A → Bool) where
   pub every_append : (l m : List A) → every f l ≡ true → every f m ≡ true → every f (l ++ m) ≡ true

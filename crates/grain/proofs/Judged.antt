@@ -2,7 +2,7 @@
 use Prim.Native.Nat.{ℕ, ◌+◌, ◌<◌, ◌≤◌}
 use mathlib.Core.Path.{◌≡◌, refl, ap, sym, ◌∙◌}
 use mathlib.Core.Bool.{Bool, true, false, cond}
-use mathlib.Core.Option.{Option, some, none}
+use Rattle.std.specs.Prelude.{Option, Some, None}
 use native.Mathlib.Omega.{arith}
 use lib.Dec.{leb, ltb}
 use borrow.Author.Tests.{lt-leb, le-leb, lt-ltb, le-ltb}
@@ -43,11 +43,11 @@ module _ (tick settlement limit price : ℕ) where
       go false true s = refl
       go false false s = refl
 
-  pub limited_span : span_in (verdict false tick settlement limit price) ≡ some (span_by tick settlement limit)
+  pub limited_span : span_in (verdict false tick settlement limit price) ≡ Some (span_by tick settlement limit)
   unfolding verdict
   limited_span = go (leb (distance price settlement) limit) (ltb price settlement) (span_by tick settlement limit)
     where
-      go : (a b : Bool) (s : Span) → span_in (cond a (Within s) (cond b (Below s) (Above s))) ≡ some s
+      go : (a b : Bool) (s : Span) → span_in (cond a (Within s) (cond b (Below s) (Above s))) ≡ Some s
       go true b s = refl
       go false true s = refl
       go false false s = refl
@@ -60,10 +60,10 @@ module _ (tick settlement limit price : ℕ) where
 pub free_only : (spot : Bool) (tick settlement limit price : ℕ) → verdict spot tick settlement limit price ≡ Free → spot ≡ true
 free_only true tick settlement limit price e = refl
 free_only false tick settlement limit price e =
-    let z : ◌≡◌ {A = Option Span} (some _) none = sym (limited_span tick settlement limit price) ∙ ap span_in e in cc
+    let z : ◌≡◌ {A = Option Span} (Some _) None = sym (limited_span tick settlement limit price) ∙ ap span_in e in cc
 
 -- of the verdicts with a span one is within
-pub within_only : (v : Verdict) (s : Span) → is_within v ≡ true → span_in v ≡ some s → v ≡ Within s
+pub within_only : (v : Verdict) (s : Span) → is_within v ≡ true → span_in v ≡ Some s → v ≡ Within s
 within_only Free s w e = let z : ◌≡◌ {A = Bool} false true = w in cc
 within_only (Within t) s w e = cc
 within_only (Below t) s w e = let z : ◌≡◌ {A = Bool} false true = w in cc

@@ -1,5 +1,7 @@
+pub mod Adjacent
 pub mod Ascending
 pub mod Below
+pub mod Chains
 pub mod FactsOfDates
 pub mod Columns
 pub mod DateCases
@@ -11,6 +13,7 @@ pub mod MonthSets
 pub mod OnTick
 pub mod Outcomes
 pub mod PriceFacts
+pub mod RefusalNumbers
 pub mod Rounded
 pub mod Rounding
 pub mod Scans

@@ -2,18 +2,17 @@
 use mathlib.Core.Path.{◌≡◌, refl}
 use mathlib.Core.List.{[], ◌∷◌}
 use lib.ListN.{replicate}
-use Rattle.grain.specs.Lists.{◌and◌, every, sum}
+use Rattle.std.specs.Prelude.{ℕ, Result, Err}
+use Rattle.grain.specs.Lists.{◌and◌, every}
 use Rattle.grain.specs.Products.{steps, floors, standard_ticks, tick_of}
 use Rattle.grain.specs.Prices.{is_on_tick}
 use Rattle.grain.specs.Amounts.{expanded_by, season_by, is_fit}
 use Rattle.grain.specs.Dates.{is_leap, month_length, is_date, contract_month, season_number, days_remaining}
 use Rattle.grain.specs.Margin.{refused, gives, expanded_limit_as, expanded_limit, season_limits_as, season_limits, date_facts_as, date_facts}
-use Rattle.grain.specs.declared.margin.ExpandedLimit.{ExpandedLimit}
-use Rattle.grain.specs.declared.margin.ExpandedLimit.TheVariants as E
-use Rattle.grain.specs.declared.margin.SeasonLimits.{SeasonLimits}
-use Rattle.grain.specs.declared.margin.SeasonLimits.TheVariants.{BadSettlement}
+use Rattle.grain.specs.declared.amounts.Limit.{Limit}
 use Rattle.grain.specs.declared.margin.DateFacts.{DateFacts}
-use Rattle.grain.specs.declared.margin.DateFacts.TheVariants.{NoSuchDate}
+use Rattle.grain.specs.declared.refusals.Refusal.{Refusal}
+use Rattle.grain.specs.declared.refusals.Refusal.TheVariants.{NoSuchDate, NoSuchProduct, BadPrice}
 use Rattle.grain.proofs.Outcomes.{expanded_limit_same, season_limits_same, date_facts_same}
 
 -- Corn, whose step is 40 and whose floor is 160
@@ -30,12 +29,12 @@ pub record MarginCases : Type 0 where
   pub no_date : date_facts 2023 2 29 ≡ refused 3
   pub leap_day : date_facts 2024 2 29 ≡ gives (24289 ∷ 4047 ∷ 0 ∷ [])
   -- so of the calls
-  pub no_product_answer : (r : ExpandedLimit) → expanded_limit_as r ≡ expanded_limit 9 200 → r ≡ E.NoSuchProduct
-  pub off_tick_answer : (r : SeasonLimits) → season_limits_as r ≡ season_limits 0 (replicate 45 6001) → r ≡ BadSettlement
-  pub no_date_answer : (r : DateFacts) → date_facts_as r ≡ date_facts 2023 2 29 → r ≡ NoSuchDate
+  pub no_product_answer : (r : Result ℕ Refusal) → expanded_limit_as r ≡ expanded_limit 9 200 → r ≡ Err NoSuchProduct
+  pub off_tick_answer : (r : Result Limit Refusal) → season_limits_as r ≡ season_limits 0 (replicate 45 6001) → r ≡ Err BadPrice
+  pub no_date_answer : (r : Result DateFacts Refusal) → date_facts_as r ≡ date_facts 2023 2 29 → r ≡ Err NoSuchDate
 
 pub cases : MarginCases
-unfolding expanded_limit season_limits date_facts is_fit floors steps expanded_by every ◌and◌ is_on_tick tick_of standard_ticks season_by sum is_date month_length is_leap contract_month season_number days_remaining
+unfolding expanded_limit season_limits date_facts is_fit floors steps expanded_by every ◌and◌ is_on_tick tick_of standard_ticks season_by is_date month_length is_leap contract_month season_number days_remaining
 cases =
     record {
       no_product = refl;
@@ -48,7 +47,7 @@ cases =
       season = refl;
       no_date = refl;
       leap_day = refl;
-      no_product_answer = λ r e. expanded_limit_same r E.NoSuchProduct e;
-      off_tick_answer = λ r e. season_limits_same r BadSettlement e;
-      no_date_answer = λ r e. date_facts_same r NoSuchDate e;
+      no_product_answer = λ r e. expanded_limit_same r (Err NoSuchProduct) e;
+      off_tick_answer = λ r e. season_limits_same r (Err BadPrice) e;
+      no_date_answer = λ r e. date_facts_same r (Err NoSuchDate) e;
     }

@@ -1,57 +1,37 @@
--- Back from what the rule says to the answer of a margin call: two answers that say the same are the same.
-use mathlib.Core.Path.{◌≡◌, refl, sym, ◌∙◌, ap}
-use mathlib.Core.Bool.{cond}
-use mathlib.Core.List.{[], ◌∷◌}
-use lib.Dec.{eqb}
-use Rattle.grain.specs.Margin.{Outcome, refused, gives, expanded_limit_as, season_limits_as, date_facts_as}
-use Rattle.grain.specs.declared.margin.ExpandedLimit.{ExpandedLimit}
-use Rattle.grain.specs.declared.margin.ExpandedLimit.TheVariants.{Is, UnfitAmount}
-use Rattle.grain.specs.declared.margin.ExpandedLimit.TheVariants as E
-use Rattle.grain.specs.declared.margin.SeasonLimits.{SeasonLimits}
-use Rattle.grain.specs.declared.margin.SeasonLimits.TheVariants.{Are, NotFortyFive, BadSettlement}
-use Rattle.grain.specs.declared.margin.SeasonLimits.TheVariants as S
+-- Back from what the rule says to the result of a margin call: two results that say the same are the same.
+use Rattle.std.proofs.Common.{◌≡◌, refl, sym, ◌∙◌, ap, ℕ, List, get_or, Result, Ok, Err}
+use Rattle.grain.specs.Margin.{Outcome, refused, gives, outcome_of, expanded_limit_as, season_limits_as, date_facts_as}
+use Rattle.grain.specs.declared.amounts.Limit.{Limit}
 use Rattle.grain.specs.declared.margin.DateFacts.{DateFacts}
-use Rattle.grain.specs.declared.margin.DateFacts.TheVariants.{On, NoSuchDate}
+use Rattle.grain.specs.declared.refusals.Refusal.{Refusal}
+use Rattle.grain.proofs.RefusalNumbers.{refusal_numbered, numbered_back}
 
--- the answer that says this, or any
-abbrev expanded_limit_from : Outcome → ExpandedLimit
-expanded_limit_from (refused n) = cond (eqb n 5) E.NoSuchProduct UnfitAmount
-expanded_limit_from (gives (e ∷ values)) = Is e
-expanded_limit_from (gives []) = UnfitAmount
+module _ {A : Type 0} (f : A → List ℕ) (value_in : List ℕ → A) (back : (a : A) → value_in (f a) ≡ a) where
+  -- the result that says this
+  abbrev result_from : Outcome → Result A Refusal
+  result_from (refused n) = Err (refusal_numbered n)
+  result_from (gives values) = Ok (value_in values)
 
-pub expanded_limit_same : (r s : ExpandedLimit) → expanded_limit_as r ≡ expanded_limit_as s → r ≡ s
-expanded_limit_same r s e = sym (back r) ∙ ap expanded_limit_from e ∙ back s
-  where
-    back : (r : ExpandedLimit) → expanded_limit_from (expanded_limit_as r) ≡ r
-    back (Is e) = refl
-    back E.NoSuchProduct = refl
-    back UnfitAmount = refl
+  result_back : (r : Result A Refusal) → result_from (outcome_of f r) ≡ r
+  result_back (Ok a) = ap Ok (back a)
+  result_back (Err r) = ap Err (numbered_back r)
 
-abbrev season_limits_from : Outcome → SeasonLimits
-season_limits_from (refused n) = cond (eqb n 5) S.NoSuchProduct (cond (eqb n 6) NotFortyFive BadSettlement)
-season_limits_from (gives (i ∷ e ∷ values)) = Are i e
-season_limits_from (gives (i ∷ [])) = BadSettlement
-season_limits_from (gives []) = BadSettlement
+  pub outcome_same : (r s : Result A Refusal) → outcome_of f r ≡ outcome_of f s → r ≡ s
+  outcome_same r s e = sym (result_back r) ∙ ap result_from e ∙ result_back s
 
-pub season_limits_same : (r s : SeasonLimits) → season_limits_as r ≡ season_limits_as s → r ≡ s
-season_limits_same r s e = sym (back r) ∙ ap season_limits_from e ∙ back s
-  where
-    back : (r : SeasonLimits) → season_limits_from (season_limits_as r) ≡ r
-    back (Are i e) = refl
-    back S.NoSuchProduct = refl
-    back NotFortyFive = refl
-    back BadSettlement = refl
+pub expanded_limit_same : (r s : Result ℕ Refusal) → expanded_limit_as r ≡ expanded_limit_as s → r ≡ s
+expanded_limit_same r s e = outcome_same _ (λ values. get_or values 0 0) (λ a. refl) r s e
 
-abbrev date_facts_from : Outcome → DateFacts
-date_facts_from (refused n) = NoSuchDate
-date_facts_from (gives (m ∷ s ∷ d ∷ values)) = On m s d
-date_facts_from (gives (m ∷ s ∷ [])) = NoSuchDate
-date_facts_from (gives (m ∷ [])) = NoSuchDate
-date_facts_from (gives []) = NoSuchDate
+pub season_limits_same : (r s : Result Limit Refusal) → season_limits_as r ≡ season_limits_as s → r ≡ s
+season_limits_same r s e =
+    outcome_same _ (λ values. record { initial = get_or values 0 0; expanded = get_or values 1 0 }) (λ a. refl) r s e
 
-pub date_facts_same : (r s : DateFacts) → date_facts_as r ≡ date_facts_as s → r ≡ s
-date_facts_same r s e = sym (back r) ∙ ap date_facts_from e ∙ back s
-  where
-    back : (r : DateFacts) → date_facts_from (date_facts_as r) ≡ r
-    back (On m s d) = refl
-    back NoSuchDate = refl
+pub date_facts_same : (r s : Result DateFacts Refusal) → date_facts_as r ≡ date_facts_as s → r ≡ s
+date_facts_same r s e =
+    outcome_same
+    _
+    (λ values. record { month = get_or values 0 0; season = get_or values 1 0; remaining = get_or values 2 0 })
+    (λ a. refl)
+    r
+    s
+    e

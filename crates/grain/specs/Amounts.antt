@@ -1,6 +1,5 @@
 -- Amounts. The rule calls a product's initial limit I and its expanded limit E.
-use Rattle.std.specs.Prelude.{ℕ, ◌+◌, ◌-◌, ◌*◌, ◌/◌, ◌%◌, min, max, Bool, ◌&&◌, List, leb, eqb}
-use Rattle.grain.specs.Lists.{sum}
+use Rattle.std.specs.Prelude.{ℕ, ◌+◌, ◌-◌, ◌*◌, ◌/◌, ◌%◌, min, max, Bool, ◌&&◌, List, leb, eqb, sum}
 use Rattle.grain.specs.Products.{is_product, step_of, floor_of}
 
 -- no limit is larger

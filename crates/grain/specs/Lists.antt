@@ -1,5 +1,6 @@
--- Tests over lists, sums and distances.
-use Rattle.std.specs.Prelude.{ℕ, ◌+◌, ◌-◌, Bool, true, false, ◌&&◌, ◌||◌, List, [], ◌∷◌, eqb, ltb}
+-- Tests over lists, and distances.
+use Rattle.std.specs.Prelude.{ℕ, ◌+◌, ◌-◌, Bool, true, false, ◌&&◌, List, [], ◌∷◌, eqb, ltb}
+use Rattle.std.specs.List.{list_any}
 
 infixl 35 ◌and◌
 -- both; it opens only where it is named, so that a proof finds its two sides
@@ -13,23 +14,14 @@ module _ {A : Type 0} where
   every f [] = true
   every f (a ∷ l) = f a and every f l
 
-  -- one of the list passes the test
-  abbrev pub any : (A → Bool) → List A → Bool
-  any f [] = false
-  any f (a ∷ l) = f a || any f l
-
 abbrev pub is_in : ℕ → List ℕ → Bool
-is_in n l = any (eqb n) l
+is_in n l = list_any (eqb n) l
 
 -- strictly ascending
 unfoldable pub is_ascending : List ℕ → Bool
 is_ascending [] = true
 is_ascending (m ∷ []) = true
 is_ascending (m ∷ n ∷ l) = ltb m n && is_ascending (n ∷ l)
-
-unfoldable pub sum : List ℕ → ℕ
-sum [] = 0
-sum (n ∷ l) = n + sum l
 
 -- how far two prices are apart, up or down
 abbrev pub distance : ℕ → ℕ → ℕ

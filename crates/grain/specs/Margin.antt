@@ -1,18 +1,13 @@
 -- What the margin group's calls answer.
-use Rattle.std.specs.Prelude.{ℕ, not, cond, List, [], ◌∷◌, eqb, length}
+use Rattle.std.specs.Prelude.{ℕ, not, cond, List, [], ◌∷◌, eqb, length, Result, Ok, Err}
 use Rattle.grain.specs.Lists.{every}
 use Rattle.grain.specs.Products.{is_product}
 use Rattle.grain.specs.Prices.{is_settlement}
 use Rattle.grain.specs.Dates.{is_date, contract_month, season_number, days_remaining}
-use Rattle.grain.specs.Refusals.{no_such_date, no_such_product, misshapen, bad_price, unfit_amount}
-use Rattle.grain.specs.declared.margin.ExpandedLimit.{ExpandedLimit}
-use Rattle.grain.specs.declared.margin.ExpandedLimit.TheVariants.{Is, UnfitAmount}
-use Rattle.grain.specs.declared.margin.ExpandedLimit.TheVariants as E
-use Rattle.grain.specs.declared.margin.SeasonLimits.{SeasonLimits}
-use Rattle.grain.specs.declared.margin.SeasonLimits.TheVariants.{Are, NotFortyFive, BadSettlement}
-use Rattle.grain.specs.declared.margin.SeasonLimits.TheVariants as S
+use Rattle.grain.specs.Refusals.{no_such_date, no_such_product, misshapen, bad_price, unfit_amount, number_of}
+use Rattle.grain.specs.declared.amounts.Limit.{Limit}
 use Rattle.grain.specs.declared.margin.DateFacts.{DateFacts}
-use Rattle.grain.specs.declared.margin.DateFacts.TheVariants.{On, NoSuchDate}
+use Rattle.grain.specs.declared.refusals.Refusal.{Refusal}
 use Rattle.grain.specs.Amounts.{window_length, expanded_of, season_of, is_fit_amount}
 
 -- what the rule says to a question: a refusal's number, or the values asked for
@@ -20,16 +15,14 @@ pub data Outcome : Type 0 where
   refused : ℕ → Outcome
   gives : List ℕ → Outcome
 
--- 0 where nothing is refused
-abbrev pub refusal_in : Outcome → ℕ
-refusal_in (refused n) = n
-refusal_in (gives values) = 0
+-- a call's result as the rule says it, where f lists the values of what it gives
+abbrev pub outcome_of : {A : Type 0} → (A → List ℕ) → Result A Refusal → Outcome
+outcome_of f (Ok a) = gives (f a)
+outcome_of f (Err r) = refused (number_of r)
 
 -- ---- E of a product's initial limit
-abbrev pub expanded_limit_as : ExpandedLimit → Outcome
-expanded_limit_as (Is e) = gives (e ∷ [])
-expanded_limit_as E.NoSuchProduct = refused no_such_product
-expanded_limit_as UnfitAmount = refused unfit_amount
+abbrev pub expanded_limit_as : Result ℕ Refusal → Outcome
+expanded_limit_as r = outcome_of (λ e. e ∷ []) r
 
 unfoldable pub expanded_limit : ℕ → ℕ → Outcome
 expanded_limit p i =
@@ -38,11 +31,8 @@ expanded_limit p i =
     (gives (expanded_of p i ∷ [])))
 
 -- ---- I and E of a new season
-abbrev pub season_limits_as : SeasonLimits → Outcome
-season_limits_as (Are i e) = gives (i ∷ e ∷ [])
-season_limits_as S.NoSuchProduct = refused no_such_product
-season_limits_as NotFortyFive = refused misshapen
-season_limits_as BadSettlement = refused bad_price
+abbrev pub season_limits_as : Result Limit Refusal → Outcome
+season_limits_as r = outcome_of (λ (l : Limit). l.initial ∷ l.expanded ∷ []) r
 
 unfoldable pub season_limits : ℕ → List ℕ → Outcome
 season_limits p settlements =
@@ -52,9 +42,8 @@ season_limits p settlements =
     (gives (season_of p settlements ∷ expanded_of p (season_of p settlements) ∷ []))))
 
 -- ---- a date's contract month, its season's number, and the days remaining in its month
-abbrev pub date_facts_as : DateFacts → Outcome
-date_facts_as (On month season remaining) = gives (month ∷ season ∷ remaining ∷ [])
-date_facts_as NoSuchDate = refused no_such_date
+abbrev pub date_facts_as : Result DateFacts Refusal → Outcome
+date_facts_as r = outcome_of (λ (f : DateFacts). f.month ∷ f.season ∷ f.remaining ∷ []) r
 
 unfoldable pub date_facts : ℕ → ℕ → ℕ → Outcome
 date_facts year month day =

@@ -14,6 +14,13 @@ pub const MAX_FOUNDING: u32 = 1000000;
 // How many settlements make a season limit.
 pub const WINDOW_LENGTH: usize = 45;
 
+// A product's limits: I and E of the rule.
+#[derive(Clone, Copy, Debug, Default, PartialEq, Eq)]
+pub struct Limit {
+    pub initial: u32,
+    pub expanded: u32,
+}
+
 // The largest multiple of the step that is at most x / parts.
 fn whole_steps(x: u64, parts: u64, step: u64) -> u64
     requires { (0 < parts) × (parts ≤ 4500) × (0 < step) × (step < 2 ^ 32) }
@@ -31,10 +38,7 @@ pub fn expanded(product: u32, initial: u32) -> u32
     }
     let step = step(product) as u64;
     let rounded = whole_steps(3 * (initial as u64) + (2 * step - 1), 2, step);
-    if (MAX_LIMIT as u64) < rounded {
-        return MAX_LIMIT;
-    }
-    rounded as u32
+    rounded.min(MAX_LIMIT as u64) as u32
 }
 
 // The season limit of a sum of 45 settlements.
@@ -43,12 +47,8 @@ pub(crate) fn season_initial(product: u32, sum: u32) -> u32
     ensures { result ≡ season_by (step_of product) (floor_of product) sum }
 {
     let step = step(product) as u64;
-    let floor = floor(product);
     let rounded = whole_steps(7 * (sum as u64) + 2250 * step, 4500, step) as u32;
-    if rounded < floor {
-        return floor;
-    }
-    rounded
+    rounded.max(floor(product))
 }
 
 fn is_fit(most: u32, product: u32, amount: u32) -> bool

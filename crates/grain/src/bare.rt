@@ -1,24 +1,15 @@
 // The bare check: a price against a settlement and an amount, with no book.
 ghost use Rattle.std.specs.Prelude.{◌≡◌};
-ghost use Rattle.grain.specs.Check.{span_in};
-ghost use Rattle.grain.specs.Bare.{bare_answer, verdict_number, bare_number, span_or};
+ghost use Rattle.grain.specs.Bare.{bare_answer, checked_number};
 
 use crate::amounts::is_fit_amount;
-use crate::check::{Span, Verdict, judge};
+use crate::check::{Verdict, judge};
 use crate::prices::{is_on_tick, is_settlement};
 use crate::products::tick;
-use crate::refusals::{BAD_PRICE, NO_SUCH_PRODUCT, UNFIT_AMOUNT};
-use crate::verdicts::{ABOVE, BELOW, FREE, WITHIN};
+use crate::refusals::Refusal;
 
-#[derive(Clone, Copy)]
-pub enum BareAnswer {
-    Is(Verdict),
-    NoSuchProduct,
-    BadPrice,
-    UnfitAmount,
-}
-
-// A spot that is not 0 means spot.
+// Numbers, as a caller in C passes them: every u32 is answered. A spot that is not 0 means spot. Inline: behind a call its result goes through memory, and an order takes half as long again.
+#[inline(always)]
 pub fn bare_check(
     product: u32,
     size: u32,
@@ -26,58 +17,31 @@ pub fn bare_check(
     amount: u32,
     spot: u32,
     price: u32,
-) -> BareAnswer
+) -> Result<Verdict, Refusal>
     ensures { result ≡ bare_answer product size settlement amount spot price }
 {
     let tick = tick(product, size);
     if tick == 0 {
-        return BareAnswer::NoSuchProduct;
+        return Err(Refusal::NoSuchProduct);
     }
     if !is_settlement(product, settlement) {
-        return BareAnswer::BadPrice;
+        return Err(Refusal::BadPrice);
     }
     if !is_on_tick(tick, price) {
-        return BareAnswer::BadPrice;
+        return Err(Refusal::BadPrice);
     }
     if !is_fit_amount(product, amount) {
-        return BareAnswer::UnfitAmount;
+        return Err(Refusal::UnfitAmount);
     }
-    BareAnswer::Is(judge(spot != 0, tick, settlement, amount, price))
+    Ok(judge(spot != 0, tick, settlement, amount, price))
 }
 
-pub fn verdict_number(verdict: Verdict) -> u32
-    ensures { result ≡ verdict_number verdict }
-{
-    match verdict {
-        Verdict::Free => FREE,
-        Verdict::Within(_) => WITHIN,
-        Verdict::Below(_) => BELOW,
-        Verdict::Above(_) => ABOVE,
-    }
-}
-
-pub fn bare_number(answer: BareAnswer) -> u32
-    ensures { result ≡ bare_number answer }
+// What a caller in C gets of a check.
+pub fn checked_number(answer: Result<Verdict, Refusal>) -> u32
+    ensures { result ≡ checked_number answer }
 {
     match answer {
-        BareAnswer::Is(verdict) => verdict_number(verdict),
-        BareAnswer::NoSuchProduct => NO_SUCH_PRODUCT,
-        BareAnswer::BadPrice => BAD_PRICE,
-        BareAnswer::UnfitAmount => UNFIT_AMOUNT,
-    }
-}
-
-pub fn verdict_span(verdict: Verdict) -> Span
-    ensures { result ≡ span_or (span_in verdict) }
-{
-    match verdict {
-        // Two zeros are no prices.
-        Verdict::Free => Span {
-            lowest: 0,
-            highest: 0,
-        },
-        Verdict::Within(span) => span,
-        Verdict::Below(span) => span,
-        Verdict::Above(span) => span,
+        Ok(verdict) => verdict.into(),
+        Err(refusal) => refusal.into(),
     }
 }

@@ -1,18 +1,18 @@
 // A price against a settlement and a limit.
-ghost use Rattle.std.specs.Prelude.{◌≡◌, ◌+◌, ◌-◌, min, max};
-ghost use Rattle.grain.specs.Check.{span_by, verdict};
-ghost use Rattle.grain.specs.Prices.{max_price};
+ghost use Rattle.std.specs.Prelude.{◌≡◌};
+ghost use Rattle.grain.specs.Check.{span_by, span_in, verdict, verdict_number};
 
 use crate::prices::MAX_PRICE;
+use crate::verdicts::{ABOVE, BELOW, FREE, WITHIN};
 
 // The prices that a limit allows, both ends included.
-#[derive(Clone, Copy)]
+#[derive(Clone, Copy, Debug, Default, PartialEq, Eq)]
 pub struct Span {
     pub lowest: u32,
     pub highest: u32,
 }
 
-#[derive(Clone, Copy)]
+#[derive(Clone, Copy, Debug, PartialEq, Eq)]
 pub enum Verdict {
     // A spot contract has no limit, and so no span.
     Free,
@@ -21,37 +21,40 @@ pub enum Verdict {
     Above(Span),
 }
 
-fn lowest(tick: u32, settlement: u32, limit: u32) -> u32
-    ensures { result ≡ max tick (settlement - limit) }
-{
-    if settlement < limit {
-        return tick;
-    }
-    let low = settlement - limit;
-    if low < tick {
-        return tick;
-    }
-    low
-}
-
-fn highest(settlement: u32, limit: u32) -> u32
-    ensures { result ≡ min max_price (settlement + limit) }
-{
-    let high = (settlement as u64) + (limit as u64);
-    if (MAX_PRICE as u64) < high {
-        return MAX_PRICE;
-    }
-    high as u32
-}
-
 impl Span {
     // Settlement minus limit, but not under the tick, to settlement plus limit, but not over 1,000,000.
     pub fn by(tick: u32, settlement: u32, limit: u32) -> Span
         ensures { result ≡ span_by tick settlement limit }
     {
         Span {
-            lowest: lowest(tick, settlement, limit),
-            highest: highest(settlement, limit),
+            lowest: settlement.saturating_sub(limit).max(tick),
+            highest: settlement.saturating_add(limit).min(MAX_PRICE),
+        }
+    }
+}
+
+impl Verdict {
+    // A spot contract has none.
+    pub fn span(self) -> Option<Span>
+        ensures { result ≡ span_in self }
+    {
+        match self {
+            Verdict::Free => None,
+            Verdict::Within(span) | Verdict::Below(span) | Verdict::Above(span) => Some(span),
+        }
+    }
+}
+
+// A caller in C gets the number.
+impl From<Verdict> for u32 {
+    ghost from_gives = { λ verdict number. number ≡ verdict_number verdict };
+
+    fn from(verdict: Verdict) -> u32 {
+        match verdict {
+            Verdict::Free => FREE,
+            Verdict::Within(_) => WITHIN,
+            Verdict::Below(_) => BELOW,
+            Verdict::Above(_) => ABOVE,
         }
     }
 }

@@ -1,5 +1,6 @@
 // Prices and settlements: in range and on the tick.
 ghost use Rattle.std.specs.Prelude.{◌≡◌};
+ghost use Rattle.grain.specs.Lists.{every};
 ghost use Rattle.grain.specs.Prices.{is_on_tick, is_settlement};
 
 use crate::products::tick;
@@ -32,4 +33,21 @@ pub fn is_settlement(product: u32, settlement: u32) -> bool
     ensures { result ≡ is_settlement product settlement }
 {
     is_on_tick(tick(product, 0), settlement)
+}
+
+// It goes through to the end, so that the compiler can test several at a time.
+pub fn are_on_tick(tick: u32, prices: &[u32]) -> bool
+    ensures { result ≡ every (is_on_tick tick) prices.now }
+{
+    let mut all = true;
+    for price in prices {
+        all &= is_on_tick(tick, *price);
+    }
+    all
+}
+
+pub(crate) fn are_settlements(product: u32, settlements: &[u32]) -> bool
+    ensures { result ≡ every (is_settlement product) settlements.now }
+{
+    are_on_tick(tick(product, 0), settlements)
 }

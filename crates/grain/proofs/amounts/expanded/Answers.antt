@@ -1,6 +1,5 @@
-use native.Mathlib.Omega.{arith}
-use mathlib.Core.Path.{sym, ◌∙◌}
-use native.Mathlib.Nat.{min-eq_left, min-eq_right, le_of_lt}
+use Rattle.std.proofs.Common.{sym, ◌∙◌, arith}
+use native.Mathlib.Nat.{min_comm}
 use Rattle.grain.specs.Amounts.{expanded_by}
 use Rattle.grain.proofs.Columns.{step_positive, step_small, expanded_beyond}
 use Rattle.grain.proofs.amounts.expanded.Goals as goal
@@ -16,12 +15,6 @@ whole_steps-rounded-requires c =
     let p = c.args.product in
     omega (arith, c.step-step.ensures, step_positive p c.if-product-ge-PRODUCTS.false, step_small p c.if-product-ge-PRODUCTS.false)
 
-pub returns-then-rounded : goal.returns-then-rounded
-unfolding expanded_by
-returns-then-rounded c = sym (min-eq_left (le_of_lt (rw (c.whole_steps-rounded.ensures, c.step-step.ensures) at c.if-rounded.true)))
-
 pub returns : goal.returns
 unfolding expanded_by
-returns c =
-    let e = rw c.step-step.ensures at c.whole_steps-rounded.ensures in
-    e ∙ sym (min-eq_right (rw e at c.if-rounded.false))
+returns c = c.min.ensures ∙ min_comm _ _ ∙ rw (c.whole_steps-rounded.ensures, c.step-step.ensures)

@@ -1,8 +1,8 @@
 use native.Mathlib.Omega.{arith}
-use mathlib.Core.Path.{sym}
+use mathlib.Core.Path.{◌∙◌}
 use Prim.Native.Nat.{◌+◌, ◌*◌, ◌<◌}
 use lib.Dec.{lit<}
-use native.Mathlib.Nat.{max-eq_left, max-eq_right, le_of_lt}
+use native.Mathlib.Nat.{max_comm}
 use Rattle.grain.specs.Amounts.{season_by}
 use Rattle.grain.proofs.Columns.{step_positive, step_small}
 use Rattle.grain.proofs.Rounding.{whole_steps}
@@ -22,14 +22,7 @@ overflow_cast-rounded c =
     let w = (whole_steps step 4500 (7 * a.sum + 2250 * step) pos (lit< tt)).not_above in
     omega (arith, c.whole_steps-rounded.ensures, c.step-step.ensures)
 
-pub returns-then-rounded-floor : goal.returns-then-rounded-floor
-unfolding season_by
-returns-then-rounded-floor c =
-    rw c.floor-floor.ensures
-    (sym (max-eq_left (le_of_lt (rw (c.whole_steps-rounded.ensures, c.step-step.ensures, c.floor-floor.ensures) at c.if-rounded-floor.true))))
-
 pub returns : goal.returns
 unfolding season_by
 returns c =
-    rw (c.whole_steps-rounded.ensures, c.step-step.ensures)
-    (sym (max-eq_right (rw (c.whole_steps-rounded.ensures, c.step-step.ensures, c.floor-floor.ensures) at c.if-rounded-floor.false)))
+    c.max.ensures ∙ max_comm _ _ ∙ rw (c.floor.ensures, c.whole_steps-rounded.ensures, c.step-step.ensures)

@@ -1,8 +1,10 @@
+use Prim.Native.Nat.{◌<◌}
+use Rattle.grain.proofs.Below.{by_cases}
 use native.Mathlib.Omega.{arith}
 use mathlib.Core.Path.{sym}
 use borrow.Author.Tests.{ne_eqb}
-use Rattle.grain.specs.Products.{tick_of}
-use Rattle.grain.proofs.Columns.{tick_beyond, tick_in}
+use Rattle.grain.specs.Products.{standard_ticks, mini_ticks, tick_of}
+use Rattle.grain.proofs.Columns.{tick_beyond}
 use Rattle.grain.proofs.products.tick.Goals as goal
 
 pub returns-then-product-ge-PRODUCTS : goal.returns-then-product-ge-PRODUCTS
@@ -15,4 +17,8 @@ returns-then-size-gt1 c =
     simp (ne_eqb size 0 (λ e. omega arith), ne_eqb size 1 (λ e. omega arith))
 
 pub returns : goal.returns
-returns c = tick_in c.args.product c.args.size c.if-product-ge-PRODUCTS.false (omega arith)
+unfolding tick_of standard_ticks mini_ticks
+returns c =
+    let small : c.args.size < 2 = omega arith in
+    by_cases _ c.args.product 8 c.if-product-ge-PRODUCTS.false
+    (λ e. (by_cases _ c.args.size 2 small (λ f. rw (e, f)) (λ f. rw (e, f)))) (λ e. (by_cases _ c.args.size 2 small (λ f. rw (e, f)) (λ f. rw (e, f)))) (λ e. (by_cases _ c.args.size 2 small (λ f. rw (e, f)) (λ f. rw (e, f)))) (λ e. (by_cases _ c.args.size 2 small (λ f. rw (e, f)) (λ f. rw (e, f)))) (λ e. (by_cases _ c.args.size 2 small (λ f. rw (e, f)) (λ f. rw (e, f)))) (λ e. (by_cases _ c.args.size 2 small (λ f. rw (e, f)) (λ f. rw (e, f)))) (λ e. (by_cases _ c.args.size 2 small (λ f. rw (e, f)) (λ f. rw (e, f)))) (λ e. (by_cases _ c.args.size 2 small (λ f. rw (e, f)) (λ f. rw (e, f))))

@@ -1,7 +1,0 @@
-use Rattle.grain.proofs.amounts.is_fit_amount.Goals as goal
-
-pub is_fit-requires : goal.is_fit-requires
-is_fit-requires c = tt
-
-pub returns : goal.returns
-returns c = c.is_fit.ensures
