@@ -2,12 +2,11 @@
 use Prim.Native.Nat.{ℕ}
 use mathlib.Core.Path.{◌≡◌, refl}
 use mathlib.Core.Bool.{true}
-use mathlib.Core.Option.{Option, some, none}
+use Rattle.std.specs.Prelude.{Option, Some, None, is_some}
 use borrow.Author.Tests.{not-false}
 use Rattle.grain.specs.Products.{is_offered}
 use Rattle.grain.specs.Prices.{is_price}
 use Rattle.grain.specs.declared.check.Verdict.{Verdict}
-use Rattle.record.specs.Choices.{is_some}
 use Rattle.record.specs.State.{Record}
 use Rattle.record.specs.Check.{listed, terms_tests, order_tests, judged}
 use Rattle.record.specs.Sound.{is_sound}
@@ -24,14 +23,14 @@ module _ (r : Record) (p size month : ℕ) where
     pub is : judged (terms_in r p size) month price ≡ v
 
   accepted : (price : ℕ) (v : Verdict) → (respond r (check p size month price)).answer ≡ checked v
-      → (refusal r (check p size month price) ≡ none) × (judged (terms_in r p size) month price ≡ v)
+      → (refusal r (check p size month price) ≡ None) × (judged (terms_in r p size) month price ≡ v)
   unfolding respond answer
   accepted price v e = go (refusal r (check p size month price)) e
     where
       go : (o : Option ℕ) → answer_by o (checked (judged (terms_in r p size) month price)) ≡ checked v
-          → (o ≡ none) × (judged (terms_in r p size) month price ≡ v)
-      go (some n) h = (cc, cc)
-      go none h = (refl, cc)
+          → (o ≡ None) × (judged (terms_in r p size) month price ≡ v)
+      go (Some n) h = (cc, cc)
+      go None h = (refl, cc)
 
   pub passed : (price : ℕ) (v : Verdict) → (respond r (check p size month price)).answer ≡ checked v → Passed price v
   unfolding tests terms_tests order_tests

@@ -3,7 +3,7 @@ use Prim.Native.Nat.{ℕ}
 use mathlib.Core.Path.{◌≡◌, refl, ap}
 use mathlib.Core.Bool.{Bool, true, false, not, cond}
 use mathlib.Core.List.{List, [], ◌∷◌, ◌++◌}
-use mathlib.Core.Option.{Option, some, none}
+use Rattle.std.specs.Prelude.{Option, Some, None}
 use Rattle.record.specs.Refusals.{Test, when, first, unsound}
 use Rattle.record.specs.State.{Record}
 use Rattle.record.specs.Check.{terms_tests, order_tests, judged}
@@ -11,35 +11,35 @@ use Rattle.record.specs.Sound.{is_sound}
 use Rattle.record.specs.Record.{check, checked, terms_in, tests, refusal, terms_refusal, answer, answer_by, order_answer, respond}
 
 -- the first of two rows of tests
-first_before : (l m : List Test) (n : ℕ) → first l ≡ some n → first (l ++ m) ≡ some n
-first_before [] m n e = let z : ◌≡◌ {A = Option ℕ} none (some n) = e in cc
+first_before : (l m : List Test) (n : ℕ) → first l ≡ Some n → first (l ++ m) ≡ Some n
+first_before [] m n e = let z : ◌≡◌ {A = Option ℕ} None (Some n) = e in cc
 first_before (t ∷ l) m n e = go t.applies (first_before l m n) e
   where
-    go : (b : Bool) → (first l ≡ some n → first (l ++ m) ≡ some n)
-        → cond b (some t.number) (first l) ≡ some n → cond b (some t.number) (first (l ++ m)) ≡ some n
+    go : (b : Bool) → (first l ≡ Some n → first (l ++ m) ≡ Some n)
+        → cond b (Some t.number) (first l) ≡ Some n → cond b (Some t.number) (first (l ++ m)) ≡ Some n
     go true later h = h
     go false later h = later h
 
-first-after : (l m : List Test) → first l ≡ none → first (l ++ m) ≡ first m
+first-after : (l m : List Test) → first l ≡ None → first (l ++ m) ≡ first m
 first-after [] m e = refl
 first-after (t ∷ l) m e = go t.applies (first-after l m) e
   where
-    go : (b : Bool) → (first l ≡ none → first (l ++ m) ≡ first m)
-        → cond b (some t.number) (first l) ≡ none → cond b (some t.number) (first (l ++ m)) ≡ first m
-    go true later h = let z : ◌≡◌ {A = Option ℕ} (some t.number) none = h in cc
+    go : (b : Bool) → (first l ≡ None → first (l ++ m) ≡ first m)
+        → cond b (Some t.number) (first l) ≡ None → cond b (Some t.number) (first (l ++ m)) ≡ first m
+    go true later h = let z : ◌≡◌ {A = Option ℕ} (Some t.number) None = h in cc
     go false later h = later h
 
 module _ (r : Record) (p size month price : ℕ) where
-  pub refused_terms : (n : ℕ) → terms_refusal r p size ≡ some n → refusal r (check p size month price) ≡ some n
+  pub refused_terms : (n : ℕ) → terms_refusal r p size ≡ Some n → refusal r (check p size month price) ≡ Some n
   unfolding terms_refusal refusal tests
   refused_terms n e =
       first_before (when (not (is_sound r)) unsound ∷ terms_tests r.common p size) (order_tests (terms_in r p size) month price) n e
 
-  past_terms : terms_refusal r p size ≡ none → refusal r (check p size month price) ≡ first (order_tests (terms_in r p size) month price)
+  past_terms : terms_refusal r p size ≡ None → refusal r (check p size month price) ≡ first (order_tests (terms_in r p size) month price)
   unfolding terms_refusal refusal tests
   past_terms e =
       first-after (when (not (is_sound r)) unsound ∷ terms_tests r.common p size) (order_tests (terms_in r p size) month price) e
 
-  pub on_terms : terms_refusal r p size ≡ none → (respond r (check p size month price)).answer ≡ order_answer (terms_in r p size) month price
+  pub on_terms : terms_refusal r p size ≡ None → (respond r (check p size month price)).answer ≡ order_answer (terms_in r p size) month price
   unfolding respond answer
   on_terms e = ap (λ (o : Option ℕ). answer_by o (checked (judged (terms_in r p size) month price))) (past_terms e)

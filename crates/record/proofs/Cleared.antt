@@ -3,7 +3,7 @@ use Prim.Native.Nat.{ℕ}
 use mathlib.Core.Path.{◌≡◌, refl}
 use mathlib.Core.Bool.{Bool, true, false, not, cond}
 use mathlib.Core.List.{List, [], ◌∷◌}
-use mathlib.Core.Option.{Option, some, none}
+use Rattle.std.specs.Prelude.{Option, Some, None}
 use lib.Dec.{eqb}
 use borrow.Author.Tests.{not-false}
 use Rattle.grain.specs.Lists.{every}
@@ -19,16 +19,16 @@ abbrev pub Clear : List Test → Type 0
 Clear [] = Unit {0}
 Clear (t ∷ l) = (t.applies ≡ false) × Clear l
 
-passed : (b : Bool) (n : ℕ) (o : Option ℕ) → cond b (some n) o ≡ none → (b ≡ false) × (o ≡ none)
+passed : (b : Bool) (n : ℕ) (o : Option ℕ) → cond b (Some n) o ≡ None → (b ≡ false) × (o ≡ None)
 passed true n o e = (cc, cc)
 passed false n o e = (refl, e)
 
-pub cleared : (l : List Test) → first l ≡ none → Clear l
+pub cleared : (l : List Test) → first l ≡ None → Clear l
 cleared [] e = tt
 cleared (t ∷ l) e = let h = passed t.applies t.number (first l) e in (h.0, cleared l h.1)
 
 -- an accepted call is on a sound Record, and none of its tests applies
-pub accepted_clear : (r : Record) (c : Call) → refusal r c ≡ none → (is_sound r ≡ true) × Clear (tests r c)
+pub accepted_clear : (r : Record) (c : Call) → refusal r c ≡ None → (is_sound r ≡ true) × Clear (tests r c)
 unfolding refusal
 accepted_clear r c e = let k = cleared (when (not (is_sound r)) unsound ∷ tests r c) e in (not-false _ k.0, k.1)
 
@@ -40,6 +40,6 @@ module _ (n : ℕ) (a : Answer) (other : not (is_refusal n a) ≡ true) where
   not_returned (t ∷ l) e = go t.applies (not_returned l (and_right _ _ e))
     where
       go : (b : Bool) → not (is_refusal n (answer_by (first l) a)) ≡ true
-          → not (is_refusal n (answer_by (cond b (some t.number) (first l)) a)) ≡ true
+          → not (is_refusal n (answer_by (cond b (Some t.number) (first l)) a)) ≡ true
       go true h = and_left _ _ e
       go false h = h

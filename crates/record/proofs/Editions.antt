@@ -3,8 +3,9 @@ use Prim.Native.Nat.{ℕ}
 use mathlib.Core.Path.{◌≡◌, refl, ◌∙◌}
 use mathlib.Core.Bool.{Bool, true, false, not, ◌&&◌, ◌||◌}
 use mathlib.Core.List.{List, [], ◌∷◌, map}
-use mathlib.Core.Option.{Option, some, none}
-use Rattle.grain.specs.Lists.{every, any}
+use Rattle.std.specs.Prelude.{Option, Some, None}
+use Rattle.std.specs.List.{list_any}
+use Rattle.grain.specs.Lists.{every}
 use Rattle.grain.proofs.Tests.{and_left, and_right, both}
 use Rattle.record.specs.Choices.{keep, concat_map}
 use Rattle.record.specs.State.{Level, initial, expanded, Group, Common, Record}
@@ -31,8 +32,8 @@ unfolding respond
 respond-edition r c = go (refusal r c)
   where
     go : (o : Option ℕ) → (state_by o r c).common.edition ≡ r.common.edition
-    go (some n) = refl
-    go none = next-edition r c
+    go (Some n) = refl
+    go None = next-edition r c
 
 edition-kept : (r : Record) (cs : List Call) → (state_after r cs).common.edition ≡ r.common.edition
 unfolding state_after
@@ -49,13 +50,13 @@ unfolding event_of
 unmarked_event k initial mss = go (leading (concat_map (triggering k) mss))
   where
     go : (o : Option Lead) → is_raised (led_by o Triggered Quiet) ≡ false
-    go none = refl
-    go (some l) = refl
+    go None = refl
+    go (Some l) = refl
 unmarked_event k expanded mss = go (leading (concat_map (keep k.is_holding) mss))
   where
     go : (o : Option Lead) → is_raised (led_by o Held Reverted) ≡ false
-    go none = refl
-    go (some l) = refl
+    go None = refl
+    go (Some l) = refl
 
 -- ---- under 2014 no sound group has a mark
 unmarked : (m x : Bool) → not m || (x && false) ≡ true → m ≡ false
@@ -71,7 +72,7 @@ not_raised_lem c g e t =
     rw m (unmarked_event _ g.level _)
 
 none_raised : (c : Common) (gs : List Group) → c.edition ≡ 2014 → every (is_sound_group c.edition) gs ≡ true
-    → any is_raised (map (group_event c) gs) ≡ false
+    → list_any is_raised (map (group_event c) gs) ≡ false
 unfolding every
 none_raised c [] e t = refl
 none_raised c (g ∷ gs) e t = rw (not_raised_lem c g e (and_left _ _ t), none_raised c gs e (and_right _ _ t))
@@ -85,8 +86,8 @@ own_answer r end t e = rw (none_raised r.common r.groups e (facts r t).groups)
 own_answer r (check p size month price) t e = refl
 
 answered : (o : Option ℕ) (a : Answer) → not (has_raised a) ≡ true → not (has_raised (answer_by o a)) ≡ true
-answered (some n) a t = refl
-answered none a t = t
+answered (Some n) a t = refl
+answered None a t = t
 
 none_raises : (r : Record) (cs : List Call) → is_sound r ≡ true → r.common.edition ≡ 2014
     → every (λ a. not (has_raised a)) (answers r cs) ≡ true
@@ -96,7 +97,7 @@ none_raises r (c ∷ cs) t e =
     both _ _ (answered (refusal r c) (answer r c) (own_answer r c t e))
     (none_raises (respond r c).state cs (respond_sound r c t) (respond-edition r c ∙ e))
 
-pub never_raised_lem : (s : Start) → founding_refusal s ≡ none → s.edition ≡ 2014 → (cs : List Call)
+pub never_raised_lem : (s : Start) → founding_refusal s ≡ None → s.edition ≡ 2014 → (cs : List Call)
     → every (λ a. not (has_raised a)) (answers (founded s) cs) ≡ true
 unfolding founded
 never_raised_lem s f e cs = none_raises (founded s) cs (founded_sound s f) e

@@ -4,7 +4,7 @@ use mathlib.Core.Path.{◌≡◌, refl, sym, ◌∙◌, ap}
 use mathlib.Core.Bool.{Bool}
 use mathlib.Core.List.{List, [], ◌∷◌, ◌++◌, map}
 use lib.ListN.{get_or, replicate}
-use Rattle.grain.specs.Lists.{◌and◌, every, is_ascending, sum}
+use Rattle.grain.specs.Lists.{◌and◌, every, is_ascending}
 use Rattle.grain.specs.Products.{steps, floors, firsts, last_crop_months, standard_ticks, mini_ticks, grain_months, soybean_months, oil_and_meal_months, rice_months, months_traded, tick_of, is_traded, is_last_crop_month}
 use Rattle.grain.specs.Prices.{is_on_tick}
 use Rattle.grain.specs.Amounts.{expanded_by, season_by, is_fit}
@@ -212,7 +212,7 @@ days_of2025 calls (suc n) month day = calls (of2025 month day) ++ days_of2025 ca
 -- ---- what is computed
 -- The Record after a list of calls. Its line opens every definition of the Record, so that a vector names only this one.
 unfoldable pub state_of : Record → List Call → Record
-unfolding ◌and◌ every is_ascending sum steps floors firsts last_crop_months standard_ticks mini_ticks grain_months soybean_months oil_and_meal_months rice_months months_traded tick_of is_traded is_last_crop_month is_on_tick expanded_by season_by is_fit is_leap month_length is_date contract_month season_number days_remaining is_spot span_by verdict group_table found_product found_group founded are_fit founding_refusal is_true_day opening_tests is_renewed open_product has_new_limits open_group is_misshapen has_bad_month has_bad_settlement lacks_contract is_beyond sheet_tests file_product file_group collected_month window_after product_moves group_moves conditions_of event_of group_event end_product end_group terms_tests order_tests judged is_sound_sheet is_sound_window is_sound_product is_sound_group is_sound_date is_sound is_outstanding tests refusal answer next_common next_group next respond state_after answers kept_from
+unfolding ◌and◌ every is_ascending steps floors firsts last_crop_months standard_ticks mini_ticks grain_months soybean_months oil_and_meal_months rice_months months_traded tick_of is_traded is_last_crop_month is_on_tick expanded_by season_by is_fit is_leap month_length is_date contract_month season_number days_remaining is_spot span_by verdict group_table found_product found_group founded are_fit founding_refusal is_true_day opening_tests is_renewed open_product has_new_limits open_group is_misshapen has_bad_month has_bad_settlement lacks_contract is_beyond sheet_tests file_product file_group collected_month window_after product_moves group_moves conditions_of event_of group_event end_product end_group terms_tests order_tests judged is_sound_sheet is_sound_window is_sound_product is_sound_group is_sound_date is_sound is_outstanding tests refusal answer next_common next_group next respond state_after answers kept_from
 state_of r cs = state_after r cs
 
 -- the answers to further calls after a list of calls

@@ -2,14 +2,14 @@
 use Prim.Native.Nat.{ℕ}
 use mathlib.Core.Path.{◌≡◌, refl}
 use mathlib.Core.List.{List, [], ◌∷◌}
-use mathlib.Core.Option.{Option, some, none}
+use Rattle.std.specs.Prelude.{Option, Some, None}
 use Rattle.record.specs.State.{Record}
 use Rattle.record.specs.Record.{Call, opening, sheet, end, check, refusal, answer, answer_by, respond, answers}
 use Rattle.record.specs.History.{Entry, add, add_by, kept_from}
 
 abbrev pub add_unless : Option ℕ → Call → List Entry → List Entry
-add_unless (some n) c es = es
-add_unless none c es = add c es
+add_unless (Some n) c es = es
+add_unless None c es = add c es
 
 -- the history after a list of calls on a Record with the history es behind it
 unfoldable pub history_from : List Entry → Record → List Call → List Entry
@@ -24,8 +24,8 @@ accepted_adds r end es = refl
 accepted_adds r (check p size month price) es = refl
 
 adds : (r : Record) (c : Call) (es : List Entry) (o : Option ℕ) → add_unless o c es ≡ add_by (answer_by o (answer r c)) c es
-adds r c es (some n) = refl
-adds r c es none = rw (accepted_adds r c es)
+adds r c es (Some n) = refl
+adds r c es None = rw (accepted_adds r c es)
 
 pub history_kept : (es : List Entry) (r : Record) (cs : List Call) → history_from es r cs ≡ kept_from es cs (answers r cs)
 unfolding history_from kept_from answers respond

@@ -3,7 +3,7 @@ use Prim.Native.Nat.{ℕ}
 use mathlib.Core.Path.{◌≡◌}
 use mathlib.Core.Bool.{true}
 use mathlib.Core.List.{List}
-use mathlib.Core.Option.{none}
+use Rattle.std.specs.Prelude.{None}
 use Rattle.record.specs.State.{Record, group_of, group_at}
 use Rattle.record.specs.Founding.{Start, founding_refusal, founded}
 use Rattle.record.specs.Sound.{is_sound}
@@ -25,10 +25,10 @@ check_reads : (r t : Record) (p size month price : ℕ) → is_sound r ≡ true 
 unfolding respond refusal tests answer
 check_reads r t p size month price s u c g = rw (s, u, c, g)
 
-stays_sound_lem : (s : Start) → founding_refusal s ≡ none → (cs : List Call) → is_sound (after s cs) ≡ true
+stays_sound_lem : (s : Start) → founding_refusal s ≡ None → (cs : List Call) → is_sound (after s cs) ≡ true
 stays_sound_lem s f cs = always_sound (founded s) cs (founded_sound s f)
 
-same_checks : (s : Start) → founding_refusal s ≡ none → (g : ℕ) (cs ds : List Call)
+same_checks : (s : Start) → founding_refusal s ≡ None → (g : ℕ) (cs ds : List Call)
     → SameFor g (history_of s cs) (history_of s ds) → (p size month price : ℕ) → group_of p ≡ g
     → check_after s cs p size month price ≡ check_after s ds p size month price
 same_checks s f g cs ds same p size month price e =

@@ -3,7 +3,7 @@ use Prim.Native.Nat.{ℕ}
 use mathlib.Core.Path.{◌≡◌, refl}
 use mathlib.Core.Bool.{false}
 use mathlib.Core.List.{List, [], ◌∷◌, ◌++◌, map}
-use mathlib.Core.Option.{Option, some, none}
+use Rattle.std.specs.Prelude.{Option, Some, None}
 use lib.ListN.{replicate, take}
 use Rattle.grain.specs.Dates.{contract_month}
 use Rattle.record.specs.Founding.{founding_refusal}
@@ -18,7 +18,7 @@ founding_of edition limits = founding_refusal (record { edition = edition; limit
 abbrev ends : List ℕ
 ends = 160 ∷ 1000000 ∷ 1000000 ∷ 200 ∷ 240 ∷ 240 ∷ 160 ∷ 1000000 ∷ []
 
-pub fit : founding_refusal corn_at200 ∷ founding_of 2014 ends ∷ founding_of 2023 ends ∷ [] ≡ replicate 3 none
+pub fit : founding_refusal corn_at200 ∷ founding_of 2014 ends ∷ founding_of 2023 ends ∷ [] ≡ replicate 3 None
 unfolding state_of
 fit = refl
 
@@ -29,13 +29,13 @@ pub unfit :
     ∷ founding_of 2023 (200 ∷ 400 ∷ 200 ∷ 200 ∷ 240 ∷ 240 ∷ 160 ∷ 1000010 ∷ [])
     ∷ founding_of 2023 (200 ∷ 400 ∷ 200 ∷ 200 ∷ 240 ∷ 240 ∷ 160 ∷ [])
     ∷ []
-    ≡ replicate 4 (some 13)
+    ≡ replicate 4 (Some 13)
 unfolding state_of
 unfit = refl
 
 -- no edition, the years about the two included; 17 before 13
 pub no_edition :
-    map (λ e. founding_of e ends) (0 ∷ 2013 ∷ 2015 ∷ 2022 ∷ 2024 ∷ []) ++ (founding_of 2019 [] ∷ []) ≡ replicate 6 (some 17)
+    map (λ e. founding_of e ends) (0 ∷ 2013 ∷ 2015 ∷ 2022 ∷ 2024 ∷ []) ++ (founding_of 2019 [] ∷ []) ≡ replicate 6 (Some 17)
 unfolding state_of
 no_edition = refl
 

@@ -3,7 +3,7 @@ use Prim.Native.Nat.{ℕ}
 use mathlib.Core.Path.{◌≡◌, refl, ap, sym, ◌∙◌}
 use mathlib.Core.Bool.{Bool, true, false, not, cond}
 use mathlib.Core.List.{List, [], ◌∷◌}
-use mathlib.Core.Option.{Option, some, none}
+use Rattle.std.specs.Prelude.{Option, Some, None}
 use lib.Dec.{eqb}
 use borrow.Author.Tests.{not-false}
 use Rattle.record.specs.State.{Day, Sheet, Product, Group, Common, Record, with_opened, with_is_open, with_products, with_today}
@@ -24,7 +24,7 @@ with_none : (g : Group) → group_with [] g ≡ g
 unfolding group_with product_with
 with_none g = ap (λ qs. with_products qs g) (map_same (product_with []) (λ q. refl) g.products)
 
-over-cond : (b : Bool) (s : Sheet) (o w : Option Sheet) → cond b (some s) (over o w) ≡ over (cond b (some s) o) w
+over-cond : (b : Bool) (s : Sheet) (o w : Option Sheet) → cond b (Some s) (over o w) ≡ over (cond b (Some s) o) w
 over-cond true s o w = refl
 over-cond false s o w = refl
 
@@ -61,7 +61,7 @@ module _ (r₀ : Record) where
   unfolding next next_common next_group replay group_after
   sheet_on p ms ss d fs true es e = cc
   sheet_on p ms ss d fs false es e =
-      ap (with_groups (with_opened (some d) (with_is_open true (common_after es r₀.common))))
+      ap (with_groups (with_opened (Some d) (with_is_open true (common_after es r₀.common))))
       (map-map _ _ _ (λ g. filed_more (record { product = p; sheet = contracts ms ss }) _ _) r₀.groups)
 
   end_on : (d : Day) (fs : List ProductSheet) (b : Bool) (es : List Entry) → not b ≡ true
@@ -70,7 +70,7 @@ module _ (r₀ : Record) where
   unfolding next next_common next_group replay group_after
   end_on d fs true es e = cc
   end_on d fs false es e =
-      ap (with_groups (with_opened (some d) (with_is_open false (common_after es r₀.common))))
+      ap (with_groups (with_opened (Some d) (with_is_open false (common_after es r₀.common))))
       (map-map _ _ _ (λ g. refl) r₀.groups)
 
 -- a Record with no day open
@@ -89,7 +89,7 @@ module _ (r₀ : Record) (f : IsFresh r₀) where
   accept_end [] o = cc
   accept_end (a_day k ∷ es) o = end_on r₀ k.day k.sheets k.is_ended es o
 
-  accepted : (c : Call) (es : List Entry) → refusal (replay es r₀) c ≡ none → next (replay es r₀) c ≡ replay (add c es) r₀
+  accepted : (c : Call) (es : List Entry) → refusal (replay es r₀) c ≡ None → next (replay es r₀) c ≡ replay (add c es) r₀
   unfolding tests replay
   accepted (opening d) es e = accept_opening r₀ d es
   accepted (sheet p ms ss) es e = accept_sheet p ms ss es (not-false _ (accepted_clear (replay es r₀) (sheet p ms ss) e).1.0)
@@ -102,8 +102,8 @@ module _ (r₀ : Record) (f : IsFresh r₀) where
   stepped c es = go (refusal (replay es r₀) c) refl
     where
       go : (o : Option ℕ) → refusal (replay es r₀) c ≡ o → state_by o (replay es r₀) c ≡ replay (add_unless o c es) r₀
-      go (some n) e = refl
-      go none e = accepted c es e
+      go (Some n) e = refl
+      go None e = accepted c es e
 
   replayed_from : (es : List Entry) (cs : List Call)
       → state_after (replay es r₀) cs ≡ replay (history_from es (replay es r₀) cs) r₀

@@ -2,7 +2,7 @@
 use Prim.Native.Nat.{ℕ, ◌≤◌}
 use mathlib.Core.Path.{◌≡◌, refl, sym, ◌∙◌, ap}
 use mathlib.Core.Bool.{Bool, true, false, ◌&&◌}
-use mathlib.Core.Option.{Option, some, none}
+use Rattle.std.specs.Prelude.{Option, Some, None, is_some}
 use lib.Dec.{leb}
 use borrow.Author.Tests.{le-leb}
 use native.Mathlib.Omega.{arith}
@@ -15,7 +15,6 @@ use Rattle.grain.specs.declared.check.Verdict.{Verdict}
 use Rattle.grain.specs.declared.check.Verdict.TheVariants.{Within}
 use Rattle.grain.proofs.Judged.{limited_span, is_free, within_only}
 use Rattle.grain.proofs.Spanned.{every_span}
-use Rattle.record.specs.Choices.{is_some}
 use Rattle.record.specs.State.{Record}
 use Rattle.record.specs.Check.{Terms, listed, terms_tests, order_tests, judged}
 use Rattle.record.specs.Record.{check, checked, terms_in, tests, refusal, answer, respond}
@@ -28,16 +27,16 @@ record Carried (spot : Bool) (t x l : ℕ) (s : Span) : Type 0 where
   not_spot : spot ≡ false
   is_span : s ≡ span_by t x l
 
-carried : (spot : Bool) (t x l price : ℕ) (s : Span) → span_in (verdict spot t x l price) ≡ some s → Carried spot t x l s
+carried : (spot : Bool) (t x l price : ℕ) (s : Span) → span_in (verdict spot t x l price) ≡ Some s → Carried spot t x l s
 carried true t x l price s e =
-    let z : ◌≡◌ {A = Option Span} none (some s) = sym (ap span_in (is_free t x l price)) ∙ e in record { not_spot = cc; is_span = cc }
+    let z : ◌≡◌ {A = Option Span} None (Some s) = sym (ap span_in (is_free t x l price)) ∙ e in record { not_spot = cc; is_span = cc }
 carried false t x l price s e =
-    let z : some (span_by t x l) ≡ some s = sym (limited_span t x l price) ∙ e in record { not_spot = refl; is_span = cc }
+    let z : Some (span_by t x l) ≡ Some s = sym (limited_span t x l price) ∙ e in record { not_spot = refl; is_span = cc }
 
 -- ---- an accepted check
-some_of : (o : Option ℕ) → is_some o ≡ true → (x : ℕ) × (o ≡ some x)
-some_of none e = let z : ◌≡◌ {A = Bool} false true = e in (0, cc)
-some_of (some x) e = (x, refl)
+some_of : (o : Option ℕ) → is_some o ≡ true → (x : ℕ) × (o ≡ Some x)
+some_of None e = let z : ◌≡◌ {A = Bool} false true = e in (0, cc)
+some_of (Some x) e = (x, refl)
 
 module _ (r : Record) (p size month : ℕ) where
   abbrev on : Terms
@@ -50,13 +49,13 @@ module _ (r : Record) (p size month : ℕ) where
   again price other v k e = rw (k.sound, k.is_open, k.offered, k.is_listed, e)
 
   -- a listed settlement
-  module _ (x : ℕ) (found : listed on.date on.last month ≡ some x) where
+  module _ (x : ℕ) (found : listed on.date on.last month ≡ Some x) where
     judged-by : (price : ℕ) → judged on month price ≡ verdict (is_spot on.date month) on.tick x on.limit price
     unfolding judged
     judged-by price = rw found
 
     -- and a verdict with a span
-    module _ (price : ℕ) (v : Verdict) (k : Passed r p size month price v) (s : Span) (has : span_in v ≡ some s) where
+    module _ (price : ℕ) (v : Verdict) (k : Passed r p size month price v) (s : Span) (has : span_in v ≡ Some s) where
       is_carried : Carried (is_spot on.date month) on.tick x on.limit s
       is_carried = carried _ _ _ _ price s (ap span_in (sym (judged-by price) ∙ k.is) ∙ has)
 
@@ -98,7 +97,7 @@ module _ (r : Record) (p size month : ℕ) where
           }
 
 pub resent : (r : Record) (p size month price : ℕ) (v : Verdict) (s : Span)
-    → (respond r (check p size month price)).answer ≡ checked v → span_in v ≡ some s → Resent r p size month s
+    → (respond r (check p size month price)).answer ≡ checked v → span_in v ≡ Some s → Resent r p size month s
 resent r p size month price v s e has =
     let k = passed r p size month price v e in
     let found = some_of _ k.is_listed in

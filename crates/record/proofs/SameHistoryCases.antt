@@ -2,7 +2,7 @@
 use mathlib.Core.Path.{◌≡◌, refl, sym, ◌∙◌}
 use mathlib.Core.Bool.{true, false}
 use mathlib.Core.List.{List, [], ◌∷◌}
-use mathlib.Core.Option.{Option, some, none}
+use Rattle.std.specs.Prelude.{Option, Some, None}
 use Rattle.record.specs.State.{Sheet}
 use Rattle.record.specs.Record.{Call, opening, sheet, end, check}
 use Rattle.record.specs.History.{Milestone, day_opened, openings_and_ends, sheets_of, products_of, SameFor}
@@ -60,10 +60,10 @@ the_openings = day_opened june4 false ∷ day_opened june3 true ∷ []
 -- the sheets of Soybeans, Oil and Meal of both
 abbrev the_sheets : List (List (Option Sheet))
 the_sheets =
-    (none ∷ some (record { month = jul25; settlement = 5200 } ∷ []) ∷ none ∷ [])
-    ∷ (some (record { month = jul25; settlement = 8000 } ∷ [])
-    ∷ some (record { month = jul25; settlement = 5000 } ∷ [])
-    ∷ some (record { month = jul25; settlement = 4000 } ∷ [])
+    (None ∷ Some (record { month = jul25; settlement = 5200 } ∷ []) ∷ None ∷ [])
+    ∷ (Some (record { month = jul25; settlement = 8000 } ∷ [])
+    ∷ Some (record { month = jul25; settlement = 5000 } ∷ [])
+    ∷ Some (record { month = jul25; settlement = 4000 } ∷ [])
     ∷ [])
     ∷ []
 

@@ -3,7 +3,7 @@ use Prim.Native.Nat.{ℕ}
 use mathlib.Core.Path.{◌≡◌, refl}
 use mathlib.Core.Bool.{true, false, cond}
 use mathlib.Core.List.{List, [], ◌∷◌, ◌++◌, map}
-use mathlib.Core.Option.{some}
+use Rattle.std.specs.Prelude.{Some}
 use lib.Dec.{eqb}
 use Rattle.grain.specs.declared.check.Verdict.TheVariants.{Within, Above}
 use Rattle.record.specs.State.{Day, Record, initial, expanded, with_level, with_mark}
@@ -145,7 +145,7 @@ first_of_all = in_one_run _ _ _ _ refl
 abbrev all_expanded : Record
 all_expanded =
     record {
-      common = record { edition = 2014; opened = some (on 2025 4 30 0); is_open = false };
+      common = record { edition = 2014; opened = Some (on 2025 4 30 0); is_open = false };
       groups = map (with_level expanded) (collected 45).groups;
     }
 

@@ -3,7 +3,7 @@ use Prim.Native.Nat.{ℕ, zero, suc}
 use mathlib.Core.Path.{◌≡◌, refl}
 use mathlib.Core.Bool.{Bool, true, false, cond}
 use mathlib.Core.List.{List, [], ◌∷◌, map}
-use mathlib.Core.Option.{Option, some, none}
+use Rattle.std.specs.Prelude.{Option, Some, None}
 use lib.Dec.{ltb, eqb}
 use lib.ListN.{get_or}
 use borrow.Author.Tests.{eqb-true}
@@ -21,13 +21,13 @@ use Rattle.record.proofs.SoundSheets.{sheet_settlements}
 
 -- a settlement on a sheet whose settlements all are settlements of the product
 settled_on : (p month x : ℕ) (s : Sheet) → every (is_settlement p) (map (λ (c : Contract). c.settlement) s) ≡ true
-    → settlement_on s month ≡ some x → is_settlement p x ≡ true
+    → settlement_on s month ≡ Some x → is_settlement p x ≡ true
 unfolding every
 settled_on p month x [] t e = cc
 settled_on p month x (c ∷ s) t e = go (eqb c.month month) (settled_on p month x s (and_right _ _ t)) e
   where
-    go : (b : Bool) → (settlement_on s month ≡ some x → is_settlement p x ≡ true)
-        → cond b (some c.settlement) (settlement_on s month) ≡ some x → is_settlement p x ≡ true
+    go : (b : Bool) → (settlement_on s month ≡ Some x → is_settlement p x ≡ true)
+        → cond b (Some c.settlement) (settlement_on s month) ≡ Some x → is_settlement p x ≡ true
     go true later h = let is : c.settlement ≡ x = cc in rw (← is) (and_left _ _ t)
     go false later h = later h
 
@@ -36,13 +36,13 @@ record Found (p : ℕ) (q : Product) : Type 0 where
   sound : is_sound_product q ≡ true
   number : q.number ≡ p
 
-found_in : (p : ℕ) (l : List Product) (s : Sheet) → every is_sound_product l ≡ true → (find p l).last ≡ some s → Found p (find p l)
+found_in : (p : ℕ) (l : List Product) (s : Sheet) → every is_sound_product l ≡ true → (find p l).last ≡ Some s → Found p (find p l)
 unfolding every
-found_in p [] s t e = let z : ◌≡◌ {A = Option Sheet} none (some s) = e in record { sound = cc; number = cc }
+found_in p [] s t e = let z : ◌≡◌ {A = Option Sheet} None (Some s) = e in record { sound = cc; number = cc }
 found_in p (q ∷ l) s t e = go (eqb q.number p) refl (found_in p l s (and_right _ _ t)) e
   where
-    go : (b : Bool) → eqb q.number p ≡ b → ((find p l).last ≡ some s → Found p (find p l))
-        → (cond b q (find p l)).last ≡ some s → Found p (cond b q (find p l))
+    go : (b : Bool) → eqb q.number p ≡ b → ((find p l).last ≡ Some s → Found p (find p l))
+        → (cond b q (find p l)).last ≡ Some s → Found p (cond b q (find p l))
     go true f later h = record { sound = and_left _ _ t; number = eqb-true _ _ f }
     go false f later h = later h
 
@@ -72,9 +72,9 @@ module _ (r : Record) (sound : is_sound r ≡ true) (p : ℕ) where
     pub fit : is_fit_amount p (todays_limit (group_at r (group_of p)) p) ≡ true
 
   rests_on : (x month : ℕ) (o : Option Sheet) → (product_in (group_at r (group_of p)) p).last ≡ o
-      → settlement_on (sheet_or o) month ≡ some x → Rests x
-  rests_on x month none e h = let z : ◌≡◌ {A = Option ℕ} none (some x) = h in record { settled = cc; fit = cc }
-  rests_on x month (some s) e h =
+      → settlement_on (sheet_or o) month ≡ Some x → Rests x
+  rests_on x month None e h = let z : ◌≡◌ {A = Option ℕ} None (Some x) = h in record { settled = cc; fit = cc }
+  rests_on x month (Some s) e h =
       let found = found_in p (group_at r (group_of p)).products s products_sound e in
       let f = facts _ found.sound in
       let last = sheet_settlements _ _ f.last in
@@ -83,9 +83,9 @@ module _ (r : Record) (sound : is_sound r ≡ true) (p : ℕ) where
         fit = rw found.number at (fit_at (group_at r (group_of p)).level _ _ _ f.limits);
       }
 
-  pub rests : (date : TradeDate) (month x : ℕ) → listed date (sheet_or (product_in (group_at r (group_of p)) p).last) month ≡ some x → Rests x
+  pub rests : (date : TradeDate) (month x : ℕ) → listed date (sheet_or (product_in (group_at r (group_of p)) p).last) month ≡ Some x → Rests x
   rests date month x e = go (ltb month date.month) e
     where
-      go : (b : Bool) → cond b none (settlement_on (sheet_or (product_in (group_at r (group_of p)) p).last) month) ≡ some x → Rests x
-      go true h = let z : ◌≡◌ {A = Option ℕ} none (some x) = h in record { settled = cc; fit = cc }
+      go : (b : Bool) → cond b None (settlement_on (sheet_or (product_in (group_at r (group_of p)) p).last) month) ≡ Some x → Rests x
+      go true h = let z : ◌≡◌ {A = Option ℕ} None (Some x) = h in record { settled = cc; fit = cc }
       go false h = rests_on x month (product_in (group_at r (group_of p)) p).last refl h

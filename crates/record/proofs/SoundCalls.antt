@@ -3,12 +3,12 @@ use Prim.Native.Nat.{ℕ}
 use mathlib.Core.Path.{◌≡◌, refl, ap, ◌∙◌}
 use mathlib.Core.Bool.{Bool, true, false, not, ◌||◌}
 use mathlib.Core.List.{List, map}
-use mathlib.Core.Option.{Option, some, none}
+use Rattle.std.specs.Prelude.{Option, Some, None, is_some}
 use borrow.Author.Tests.{not-false}
-use Rattle.grain.specs.Lists.{◌and◌, every, any}
+use Rattle.std.specs.List.{list_any}
+use Rattle.grain.specs.Lists.{◌and◌, every}
 use Rattle.grain.proofs.Tests.{and_left, and_right, both}
 use Rattle.grain.proofs.Every.{every_map, every_mapped, every_unless}
-use Rattle.record.specs.Choices.{is_some}
 use Rattle.record.specs.State.{Day, Sheet, Product, Group, Common, Record, day_of, month_of}
 use Rattle.record.specs.Edition.{is_edition}
 use Rattle.record.specs.Opening.{is_true_day, opening_tests, open_product, open_group}
@@ -77,7 +77,7 @@ opened_sound r d t f =
           rw (left is_some r.groups, left (λ o. not (is_some o)) r.groups) (dated (is_some c.opened) _ _ f.lasts);
     }
 
-filed_sound : (r : Record) (p : ℕ) (ms ss : List ℕ) → r.common.is_open ≡ true → is_sound_sheet p (some (contracts ms ss)) ≡ true
+filed_sound : (r : Record) (p : ℕ) (ms ss : List ℕ) → r.common.is_open ≡ true → is_sound_sheet p (Some (contracts ms ss)) ≡ true
     → Facts r → Facts (next r (sheet p ms ss))
 unfolding next next_common next_group file_group file_product
 filed_sound r p ms ss o u f =
@@ -94,14 +94,14 @@ filed_sound r p ms ss o u f =
 -- an open day was opened, and to close it needs nothing
 pub open_opened : (o : Option Day) (b : Bool) → is_sound_date o b ≡ true → b ≡ true → is_some o ≡ true
 unfolding is_sound_date
-open_opened none true t e = t
-open_opened none false t e = e
-open_opened (some d) b t e = refl
+open_opened None true t e = t
+open_opened None false t e = e
+open_opened (Some d) b t e = refl
 
 closed : (o : Option Day) (b : Bool) → is_sound_date o b ≡ true → is_sound_date o false ≡ true
 unfolding is_sound_date
-closed none b t = refl
-closed (some d) b t = t
+closed None b t = refl
+closed (Some d) b t = t
 
 -- after an end no sheet is in, and every product has a last ended one
 end_rests : (c : Common) (g : Group) → is_sound_group c.edition g ≡ true → every has_no_sheet_in (end_group c g).products ≡ true
@@ -114,7 +114,7 @@ unfolding is_outstanding end_group end_product
 end_lasts c g t =
     every_unless _ (end_product (day_of c) (group_event c g)) has_last (λ q u. not-false _ u) g.products t
 
-ended_sound : (r : Record) → r.common.is_open ≡ true → any is_outstanding r.groups ≡ false → Facts r → Facts (next r end)
+ended_sound : (r : Record) → r.common.is_open ≡ true → list_any is_outstanding r.groups ≡ false → Facts r → Facts (next r end)
 unfolding next next_common next_group
 ended_sound r o n f =
     let c = r.common in

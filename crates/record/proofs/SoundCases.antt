@@ -3,7 +3,7 @@ use Prim.Native.Nat.{ℕ, zero, suc, ◌-◌}
 use mathlib.Core.Path.{◌≡◌, refl}
 use mathlib.Core.Bool.{Bool, true, false}
 use mathlib.Core.List.{List, [], ◌∷◌}
-use mathlib.Core.Option.{Option, some, none}
+use Rattle.std.specs.Prelude.{Option, Some, None}
 use lib.ListN.{replicate, drop}
 use Rattle.grain.specs.Dates.{contract_month}
 use Rattle.record.specs.State.{Day, Sheet, Level, initial, expanded, Product, Common, Record, with_opened, with_is_open}
@@ -16,7 +16,7 @@ abbrev no_date : Common
 no_date = a_book.common
 
 abbrev dated : Day → Bool → Common
-dated d is_open = with_opened (some d) (with_is_open is_open no_date)
+dated d is_open = with_opened (Some d) (with_is_open is_open no_date)
 
 abbrev corn_with : ℕ → ℕ → List ℕ → Option Sheet → Option Sheet → Product
 corn_with i e window today last =
@@ -29,14 +29,14 @@ book c level mark q =
 
 -- Corn with these limits, as founded otherwise
 abbrev with_limits : ℕ → ℕ → Record
-with_limits i e = book no_date initial false (corn_with i e [] none none)
+with_limits i e = book no_date initial false (corn_with i e [] None None)
 
 abbrev with_window : List ℕ → Record
-with_window w = book no_date initial false (corn_with 200 320 w none none)
+with_window w = book no_date initial false (corn_with 200 320 w None None)
 
 -- a day is open and a sheet of Corn is in
 abbrev with_sheet_in : List ℕ → List ℕ → Record
-with_sheet_in ms ss = book (dated june3 true) initial false (corn_with 200 320 [] (some (contracts ms ss)) none)
+with_sheet_in ms ss = book (dated june3 true) initial false (corn_with 200 320 [] (Some (contracts ms ss)) None)
 
 -- July of each of n years
 abbrev julys : ℕ → List ℕ
@@ -55,12 +55,12 @@ unfolding state_of
 full_window = refl
 
 -- expanded and marked with no ended sheets
-pub marked_at_first : is_sound (book no_date expanded true (corn_with 200 320 [] none none)) ≡ true
+pub marked_at_first : is_sound (book no_date expanded true (corn_with 200 320 [] None None)) ≡ true
 unfolding state_of
 marked_at_first = refl
 
 -- a date with no day open and no ended sheets
-pub only_date : is_sound (book (dated june3 false) initial false (corn_with 200 320 [] none none)) ≡ true
+pub only_date : is_sound (book (dated june3 false) initial false (corn_with 200 320 [] None None)) ≡ true
 unfolding state_of
 only_date = refl
 
@@ -96,14 +96,14 @@ unfolding state_of
 above_the_most = refl
 
 -- a mark on an initial group
-pub mark_on_initial : is_sound (book no_date initial true (corn_with 200 320 [] none none)) ≡ false
+pub mark_on_initial : is_sound (book no_date initial true (corn_with 200 320 [] None None)) ≡ false
 unfolding state_of
 mark_on_initial = refl
 
 -- the same group, expanded, with a mark and without, under an edition
 abbrev expanded_under : ℕ → Bool → Record
 expanded_under edition mark =
-    book (record { edition = edition; opened = none; is_open = false }) expanded mark (corn_with 200 320 [] none none)
+    book (record { edition = edition; opened = None; is_open = false }) expanded mark (corn_with 200 320 [] None None)
 
 -- under 2023 a mark is sound, under 2014 it is not
 pub marks :
@@ -131,30 +131,30 @@ off_the_tick = refl
 
 -- a day open with no date
 pub open_without_date :
-    is_sound (book (with_is_open true no_date) initial false (corn_with 200 320 [] none none)) ≡ false
+    is_sound (book (with_is_open true no_date) initial false (corn_with 200 320 [] None None)) ≡ false
 unfolding state_of
 open_without_date = refl
 
 -- a false date
-pub false_date : is_sound (book (dated (on 2023 2 29 0) false) initial false (corn_with 200 320 [] none none)) ≡ false
+pub false_date : is_sound (book (dated (on 2023 2 29 0) false) initial false (corn_with 200 320 [] None None)) ≡ false
 unfolding state_of
 false_date = refl
 
 -- left above the days remaining in the month
-pub too_many_left : is_sound (book (dated (on 2024 6 28 3) false) initial false (corn_with 200 320 [] none none)) ≡ false
+pub too_many_left : is_sound (book (dated (on 2024 6 28 3) false) initial false (corn_with 200 320 [] None None)) ≡ false
 unfolding state_of
 too_many_left = refl
 
 -- a sheet in while no day is open
 pub sheet_in_unopened :
-    is_sound (book (dated june3 false) initial false (corn_with 200 320 [] (some (contracts (jul24 ∷ []) (4000 ∷ []))) none))
+    is_sound (book (dated june3 false) initial false (corn_with 200 320 [] (Some (contracts (jul24 ∷ []) (4000 ∷ []))) None))
     ≡ false
 unfolding state_of
 sheet_in_unopened = refl
 
 -- a last ended sheet of one product only
 pub one_last_sheet :
-    is_sound (book (dated june3 false) initial false (corn_with 200 320 [] none (some (contracts (jul24 ∷ []) (4000 ∷ [])))))
+    is_sound (book (dated june3 false) initial false (corn_with 200 320 [] None (Some (contracts (jul24 ∷ []) (4000 ∷ [])))))
     ≡ false
 unfolding state_of
 one_last_sheet = refl
@@ -191,7 +191,7 @@ out_of_range = refl
 
 -- 1 comes first: a false date, no such product, no day open
 pub unsound_first :
-    answers_after (book no_date initial true (corn_with 200 320 [] none none)) []
+    answers_after (book no_date initial true (corn_with 200 320 [] None None)) []
     (opening (on 2023 2 29 0) ∷ unmoved 8 ∷ end ∷ check 8 0 sep24 4000 ∷ opening june4 ∷ [])
     ≡ refused 1 ∷ refused 1 ∷ refused 1 ∷ refused 1 ∷ refused 1 ∷ []
 unfolding state_of

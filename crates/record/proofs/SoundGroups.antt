@@ -3,8 +3,9 @@ use Prim.Native.Nat.{ℕ}
 use mathlib.Core.Path.{◌≡◌, refl}
 use mathlib.Core.Bool.{Bool, true, false, not, ◌&&◌, ◌||◌, cond}
 use mathlib.Core.List.{List}
-use mathlib.Core.Option.{some}
-use Rattle.grain.specs.Lists.{every, any}
+use Rattle.std.specs.Prelude.{Some}
+use Rattle.std.specs.List.{list_any}
+use Rattle.grain.specs.Lists.{every}
 use Rattle.grain.specs.Amounts.{is_fit_founding}
 use Rattle.grain.proofs.Tests.{and_left, and_right, both}
 use Rattle.grain.proofs.Every.{every_map}
@@ -35,7 +36,7 @@ open_group_lem c d g t =
     both _ _ (marked_at_opening (has_new_limits c d g) g.level g.mark _ (and_left _ _ t))
     (every_map _ (open_product c d) is_sound_product (open_sound c d) g.products (and_right _ _ t))
 
-pub file_group_lem : (edition p : ℕ) (s : Sheet) → is_sound_sheet p (some s) ≡ true → (g : Group) → is_sound_group edition g ≡ true
+pub file_group_lem : (edition p : ℕ) (s : Sheet) → is_sound_sheet p (Some s) ≡ true → (g : Group) → is_sound_group edition g ≡ true
     → is_sound_group edition (file_group p s g) ≡ true
 unfolding is_sound_group file_group
 file_group_lem edition p s u g t =
@@ -55,5 +56,5 @@ unfolding is_sound_group end_group
 end_group_lem c g t =
     let d = day_of c in
     let e = group_event c g in
-    both _ _ (marked_expanded e (conditions_of c.edition).has_marks (any (any is_at_expanded) (group_moves d g)))
+    both _ _ (marked_expanded e (conditions_of c.edition).has_marks (list_any (list_any is_at_expanded) (group_moves d g)))
     (every_map _ (end_product d e) is_sound_product (end_sound d e) g.products (and_right _ _ t))

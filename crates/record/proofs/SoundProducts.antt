@@ -2,12 +2,12 @@
 use Prim.Native.Nat.{ℕ, ◌≤◌}
 use mathlib.Core.Path.{◌≡◌, refl}
 use mathlib.Core.Bool.{Bool, true, false, cond}
-use mathlib.Core.Option.{Option, some}
+use Rattle.std.specs.Prelude.{Option, Some}
 use native.Mathlib.Omega.{arith}
 use lib.Dec.{eqb}
 use lib.ListN.{length}
 use borrow.Author.Tests.{ltb-true, lt-ltb, leb-true, eqb-true, eq-eqb}
-use Rattle.grain.specs.Lists.{sum}
+use Rattle.std.specs.Prelude.{sum}
 use Rattle.grain.specs.Products.{is_product}
 use Rattle.grain.specs.Prices.{is_settlement}
 use Rattle.grain.specs.Amounts.{expanded_of, season_of, is_fit_amount, is_fit_founding}
@@ -104,15 +104,15 @@ open_sound c d q t =
     }
 
 -- today's sheet, of product p alone
-filed : (n p : ℕ) (s : Sheet) (o : Option Sheet) → is_sound_sheet p (some s) ≡ true → is_sound_sheet n o ≡ true
-    → is_sound_sheet n (cond (eqb n p) (some s) o) ≡ true
+filed : (n p : ℕ) (s : Sheet) (o : Option Sheet) → is_sound_sheet p (Some s) ≡ true → is_sound_sheet n o ≡ true
+    → is_sound_sheet n (cond (eqb n p) (Some s) o) ≡ true
 filed n p s o t u = go (eqb n p) refl
   where
-    go : (b : Bool) → eqb n p ≡ b → is_sound_sheet n (cond b (some s) o) ≡ true
+    go : (b : Bool) → eqb n p ≡ b → is_sound_sheet n (cond b (Some s) o) ≡ true
     go true e = rw (eqb-true n p e) t
     go false e = u
 
-pub file_sound : (p : ℕ) (s : Sheet) → is_sound_sheet p (some s) ≡ true → (q : Product) → is_sound_product q ≡ true
+pub file_sound : (p : ℕ) (s : Sheet) → is_sound_sheet p (Some s) ≡ true → (q : Product) → is_sound_product q ≡ true
     → is_sound_product (file_product p s q) ≡ true
 unfolding file_product
 file_sound p s u q t =

@@ -3,7 +3,7 @@ use Prim.Native.Nat.{ℕ, ◌≤◌}
 use mathlib.Core.Path.{◌≡◌, refl, ap}
 use mathlib.Core.Bool.{true, false, not, ◌||◌}
 use mathlib.Core.List.{List, [], ◌∷◌, map}
-use mathlib.Core.Option.{Option, some, none}
+use Rattle.std.specs.Prelude.{Option, Some, None}
 use native.Mathlib.Omega.{arith}
 use lib.Dec.{ltb, eqb}
 use lib.ListN.{length, length-map}
@@ -19,8 +19,8 @@ use Rattle.record.specs.Sound.{is_sound_sheet}
 pub sheet_settlements : (p : ℕ) (o : Option Sheet) → is_sound_sheet p o ≡ true
     → every (is_settlement p) (map (λ (c : Contract). c.settlement) (sheet_or o)) ≡ true
 unfolding is_sound_sheet every
-sheet_settlements p none t = refl
-sheet_settlements p (some s) t = and_right _ _ t
+sheet_settlements p None t = refl
+sheet_settlements p (Some s) t = and_right _ _ t
 
 -- two arrays of one length are the months and the settlements of their contracts
 record Parallel (ms ss : List ℕ) : Type 0 where
@@ -53,7 +53,7 @@ shape ms ss e =
     }
 
 pub sheet_passed : (month p : ℕ) (ms ss : List ℕ) → is_misshapen ms ss ≡ false → has_bad_month month p ms ≡ false
-    → has_bad_settlement p ss ≡ false → is_sound_sheet p (some (contracts ms ss)) ≡ true
+    → has_bad_settlement p ss ≡ false → is_sound_sheet p (Some (contracts ms ss)) ≡ true
 unfolding has_bad_month has_bad_settlement is_sound_sheet
 sheet_passed month p ms ss e₆ e₇ e₈ =
     let s = shape ms ss e₆ in

@@ -3,7 +3,7 @@ use Prim.Native.Nat.{ℕ, ◌-◌, ◌≤◌}
 use mathlib.Core.Path.{◌≡◌, refl}
 use mathlib.Core.Bool.{Bool, true, false, cond}
 use mathlib.Core.List.{List, [], ◌∷◌, ◌++◌, map}
-use mathlib.Core.Option.{Option, some, none}
+use Rattle.std.specs.Prelude.{Option, Some, None}
 use native.Mathlib.Omega.{arith}
 use lib.Dec.{leb, eqb}
 use lib.ListN.{length, length-drop}
@@ -26,11 +26,11 @@ module _ (f : ℕ → Bool) where
   holds_emptied true w t = holds_none
   holds_emptied false w t = t
 
-  holds_pushed : (w : List ℕ) (v : ℕ) → every f w ≡ true → f v ≡ true → holds (collect w (some v)) ≡ true
+  holds_pushed : (w : List ℕ) (v : ℕ) → every f w ≡ true → f v ≡ true → holds (collect w (Some v)) ≡ true
   unfolding every
   holds_pushed w v t u =
       let l = w ++ (v ∷ []) in
-      let short : length (collect w (some v)) ≤ 45 = simp length-drop (omega arith) in
+      let short : length (collect w (Some v)) ≤ 45 = simp length-drop (omega arith) in
       both _ _ (le-leb _ _ short) (every_drop f (length l - 45) l (every_append f w (v ∷ []) t (both _ _ u refl)))
 
   module _ (w : List ℕ) (t : every f w ≡ true) (month : ℕ) where
@@ -42,11 +42,11 @@ module _ (f : ℕ → Bool) where
     holds_collected (c ∷ s) u = go (eqb c.month month) (holds_collected s (and_right _ _ u))
       where
         go : (b : Bool) → holds (collect w (settlement_on s month)) ≡ true
-            → holds (collect w (cond b (some c.settlement) (settlement_on s month))) ≡ true
+            → holds (collect w (cond b (Some c.settlement) (settlement_on s month))) ≡ true
         go true h = holds_pushed w c.settlement t (and_left _ _ u)
         go false h = h
 
   pub holds_after : (w : List ℕ) (s : Sheet) (o : Option ℕ) → holds w ≡ true
       → every f (map (λ (c : Contract). c.settlement) s) ≡ true → holds (window_by w s o) ≡ true
-  holds_after w s none t u = t
-  holds_after w s (some month) t u = holds_collected w (and_right _ _ t) month s u
+  holds_after w s None t u = t
+  holds_after w s (Some month) t u = holds_collected w (and_right _ _ t) month s u

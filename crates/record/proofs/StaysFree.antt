@@ -3,7 +3,7 @@ use Prim.Native.Nat.{ℕ, ◌<◌, ◌≤◌}
 use mathlib.Core.Path.{◌≡◌, refl, sym, ◌∙◌}
 use mathlib.Core.Bool.{Bool, true, false}
 use mathlib.Core.List.{List, [], ◌∷◌, ◌++◌}
-use mathlib.Core.Option.{Option, some, none}
+use Rattle.std.specs.Prelude.{Option, Some, None, is_some, unwrap_or}
 use native.Mathlib.Omega.{arith}
 use borrow.Author.Tests.{leb-false, eq-eqb, not-false}
 use Rattle.grain.specs.Dates.{contract_month}
@@ -11,7 +11,6 @@ use Rattle.grain.specs.declared.check.Verdict.{Verdict}
 use Rattle.grain.specs.declared.check.Verdict.TheVariants.{Free}
 use Rattle.grain.proofs.Judged.{is_free, free_only}
 use Rattle.grain.proofs.Spots.{still_spot}
-use Rattle.record.specs.Choices.{is_some, or_else}
 use Rattle.record.specs.State.{Day, Record, no_day, day_of, month_of, trade_date, is_spot_on}
 use Rattle.record.specs.Founding.{Start, founding_refusal, founded}
 use Rattle.record.specs.Opening.{is_true_day, date_number, is_not_later, is_same_month, is_left_not_smaller, opening_tests}
@@ -43,7 +42,7 @@ module _ (before d : Day) (s : is_true_day before ≡ true) (t : is_true_day d �
       rw (eq-eqb d.year before.year (omega arith), eq-eqb d.month before.month (omega arith))
 
   -- neither 4 nor 16 applies
-  stays_spot : is_not_later (some before) d ≡ false → is_left_not_smaller (some before) d ≡ false
+  stays_spot : is_not_later (Some before) d ≡ false → is_left_not_smaller (Some before) d ≡ false
       → (month : ℕ) → is_spot_on before month ≡ true → is_spot_on d month ≡ true
   stays_spot later smaller month =
       still_spot (trade_date before) (trade_date d) month (later_month (leb-false _ _ later))
@@ -52,15 +51,15 @@ module _ (before d : Day) (s : is_true_day before ≡ true) (t : is_true_day d �
 -- ---- from one call to a list
 -- spot on the last opened day
 abbrev spot_since : Option Day → ℕ → Bool
-spot_since none month = false
-spot_since (some d) month = is_spot_on d month
+spot_since None month = false
+spot_since (Some d) month = is_spot_on d month
 
 module _ (month : ℕ) where
   opened_spot : (o : Option Day) (b : Bool) (d : Day) → is_sound_date o b ≡ true → is_true_day d ≡ true
       → is_not_later o d ≡ false → is_left_not_smaller o d ≡ false → spot_since o month ≡ true → is_spot_on d month ≡ true
   unfolding is_sound_date
-  opened_spot none b d s t later smaller e = let z : ◌≡◌ {A = Bool} false true = e in cc
-  opened_spot (some before) b d s t later smaller e = stays_spot before d s t later smaller month e
+  opened_spot None b d s t later smaller e = let z : ◌≡◌ {A = Bool} false true = e in cc
+  opened_spot (Some before) b d s t later smaller e = stays_spot before d s t later smaller month e
 
   accepted_spot : (r : Record) (c : Call) → is_sound r ≡ true → Clear (tests r c) → spot_since r.common.opened month ≡ true
       → spot_since (next r c).common.opened month ≡ true
@@ -77,8 +76,8 @@ module _ (month : ℕ) where
   respond_spot r c s e = go (refusal r c) refl
     where
       go : (o : Option ℕ) → refusal r c ≡ o → spot_since (state_by o r c).common.opened month ≡ true
-      go (some n) h = e
-      go none h = accepted_spot r c s (accepted_clear r c h).1 e
+      go (Some n) h = e
+      go None h = accepted_spot r c s (accepted_clear r c h).1 e
 
   list_spot : (r : Record) (cs : List Call) → is_sound r ≡ true → spot_since r.common.opened month ≡ true
       → spot_since (state_after r cs).common.opened month ≡ true
@@ -92,9 +91,9 @@ after_both r [] ds = refl
 after_both r (c ∷ cs) ds = after_both (respond r c).state cs ds
 
 -- ---- what a check says of it
-since_opened : (month : ℕ) (o : Option Day) → is_some o ≡ true → spot_since o month ≡ is_spot_on (or_else o no_day) month
-since_opened month none h = let z : ◌≡◌ {A = Bool} false true = h in cc
-since_opened month (some d) h = refl
+since_opened : (month : ℕ) (o : Option Day) → is_some o ≡ true → spot_since o month ≡ is_spot_on (unwrap_or o no_day) month
+since_opened month None h = let z : ◌≡◌ {A = Bool} false true = h in cc
+since_opened month (Some d) h = refl
 
 module _ (r : Record) (p size month price : ℕ) (v : Verdict) (e : (respond r (check p size month price)).answer ≡ checked v) where
   -- a check is answered on an open day
@@ -113,7 +112,7 @@ module _ (r : Record) (p size month price : ℕ) (v : Verdict) (e : (respond r (
       let spot : is_spot_on (day_of r.common) month ≡ true = sym since ∙ h in
       sym (passed r p size month price v e).is ∙ rw spot (is_free _ _ _ price)
 
-pub stays_free : (s : Start) → founding_refusal s ≡ none → (cs ds : List Call) (p q i j month x y : ℕ) (v : Verdict)
+pub stays_free : (s : Start) → founding_refusal s ≡ None → (cs ds : List Call) (p q i j month x y : ℕ) (v : Verdict)
     → check_after s cs p i month x ≡ checked Free → check_after s (cs ++ ds) q j month y ≡ checked v → v ≡ Free
 stays_free s f cs ds p q i j month x y v e h =
     let sound = always_sound (founded s) cs (founded_sound s f) in

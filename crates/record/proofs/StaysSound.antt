@@ -3,7 +3,7 @@ use Prim.Native.Nat.{ℕ}
 use mathlib.Core.Path.{◌≡◌, refl}
 use mathlib.Core.Bool.{true, not}
 use mathlib.Core.List.{List, [], ◌∷◌}
-use mathlib.Core.Option.{Option, some, none}
+use Rattle.std.specs.Prelude.{Option, Some, None}
 use borrow.Author.Tests.{not-false}
 use lib.Dec.{eqb}
 use lib.ListN.{length}
@@ -25,7 +25,7 @@ use Rattle.record.proofs.Cleared.{cleared, accepted_clear, not_returned}
 use Rattle.record.proofs.SoundGroups.{found_group_lem}
 use Rattle.record.proofs.SoundCalls.{facts_sound, accepted_sound}
 
-pub founded_sound : (s : Start) → founding_refusal s ≡ none → is_sound (founded s) ≡ true
+pub founded_sound : (s : Start) → founding_refusal s ≡ None → is_sound (founded s) ≡ true
 unfolding ◌and◌ every are_fit founding_refusal group_table founded found_group found_product is_sound_date
 founded_sound s t =
     let k = cleared (when (not (is_edition s.edition)) unknown_edition ∷ when (not (are_fit s.limits)) unfit_amount ∷ []) t in
@@ -43,8 +43,8 @@ unfolding respond
 respond_sound r c t = go (refusal r c) refl
   where
     go : (o : Option ℕ) → refusal r c ≡ o → is_sound (state_by o r c) ≡ true
-    go (some n) e = t
-    go none e = accepted_sound r c (accepted_clear r c e).1 t
+    go (Some n) e = t
+    go None e = accepted_sound r c (accepted_clear r c e).1 t
 
 pub always_sound : (r : Record) (cs : List Call) → is_sound r ≡ true → is_sound (state_after r cs) ≡ true
 unfolding state_after

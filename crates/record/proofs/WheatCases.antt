@@ -3,7 +3,7 @@ use Prim.Native.Nat.{ℕ}
 use mathlib.Core.Path.{◌≡◌, refl}
 use mathlib.Core.Bool.{false}
 use mathlib.Core.List.{List, [], ◌∷◌, ◌++◌, map}
-use mathlib.Core.Option.{Option, some}
+use Rattle.std.specs.Prelude.{Option, Some}
 use lib.ListN.{replicate}
 use Rattle.grain.specs.declared.check.Verdict.TheVariants.{Within, Below, Above}
 use Rattle.record.specs.State.{Day, Sheet, Level, initial, expanded, Record, group_of}
@@ -171,8 +171,8 @@ oats_leave_wheats = refl
 -- the sheets of both wheats, and of no other product, are those that two lists have to agree on for the group
 abbrev their_sheets : List (List (Option Sheet))
 their_sheets =
-    (some (record { month = jul25; settlement = 4000 } ∷ []) ∷ some (record { month = jul25; settlement = 4320 } ∷ []) ∷ [])
-    ∷ (some (record { month = jul25; settlement = 4000 } ∷ []) ∷ some (record { month = jul25; settlement = 4000 } ∷ []) ∷ [])
+    (Some (record { month = jul25; settlement = 4000 } ∷ []) ∷ Some (record { month = jul25; settlement = 4320 } ∷ []) ∷ [])
+    ∷ (Some (record { month = jul25; settlement = 4000 } ∷ []) ∷ Some (record { month = jul25; settlement = 4000 } ∷ []) ∷ [])
     ∷ []
 
 pub sheets_of_both : sheets_of (products_of wheats) (history_of kc_at320 kc_moved) ≡ their_sheets

@@ -1,6 +1,5 @@
 -- A price check on an open day: the terms that a product and size have, and what a month and price get on them.
-use Rattle.std.specs.Prelude.{ℕ, not, cond, List, [], ◌∷◌, ltb}
-use Rattle.std.proofs.Math.Option.{Option, none}
+use Rattle.std.specs.Prelude.{ℕ, not, cond, List, [], ◌∷◌, ltb, Option, None, is_some, unwrap_or}
 use Rattle.grain.specs.Products.{tick_of, is_offered}
 use Rattle.grain.specs.Prices.{is_on_tick}
 use Rattle.grain.specs.Spot.{is_spot}
@@ -8,7 +7,6 @@ use Rattle.grain.specs.Check.{verdict}
 use Rattle.grain.specs.Refusals.{no_such_product, bad_price}
 use Rattle.grain.specs.declared.check.Verdict.{Verdict}
 use Rattle.grain.specs.declared.spot.TradeDate.{TradeDate}
-use Rattle.record.specs.Choices.{is_some, or_else}
 use Rattle.record.specs.Refusals.{Test, when, wrong_phase, not_listed}
 use Rattle.record.specs.State.{Sheet, Group, Common, day_of, trade_date, product_in, todays_limit, sheet_or, settlement_on}
 
@@ -35,7 +33,7 @@ terms_of c g p size =
 
 -- the settlement that a check takes: of the last ended day, of a month that is not before the date's
 abbrev pub listed : TradeDate → Sheet → ℕ → Option ℕ
-listed date last month = cond (ltb month date.month) none (settlement_on last month)
+listed date last month = cond (ltb month date.month) None (settlement_on last month)
 
 -- the refusals of a month and price, in their order
 unfoldable pub order_tests : Terms → ℕ → ℕ → List Test
@@ -44,4 +42,4 @@ order_tests t month price =
 
 unfoldable pub judged : Terms → ℕ → ℕ → Verdict
 judged t month price =
-    verdict (is_spot t.date month) t.tick (or_else (listed t.date t.last month) 0) t.limit price
+    verdict (is_spot t.date month) t.tick (unwrap_or (listed t.date t.last month) 0) t.limit price

@@ -1,6 +1,6 @@
 -- The editions of the rule, by year, and all in which they differ: what the end of a day asks of a group's moves.
 use Rattle.std.specs.Prelude.{ℕ, Bool, true, false, ◌||◌, cond, List, leb, eqb, length}
-use Rattle.grain.specs.Lists.{any}
+use Rattle.std.specs.List.{list_any}
 use Rattle.record.specs.Move.{Move, is_at_least_initial, is_at_expanded, is_of_last_crop_month}
 
 pub record Conditions : Type 0 where
@@ -15,7 +15,7 @@ pub record Conditions : Type 0 where
 abbrev pub of2014 : Conditions
 of2014 =
     record {
-      are_enough = λ ms. leb 2 (length ms) || any is_of_last_crop_month ms;
+      are_enough = λ ms. leb 2 (length ms) || list_any is_of_last_crop_month ms;
       is_holding = is_at_expanded;
       has_marks = false;
     }

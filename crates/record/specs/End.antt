@@ -1,7 +1,6 @@
 -- The end of a day: for each group its event with the leading contract, its level, mark and limits.
-use Rattle.std.specs.Prelude.{Bool, true, false, ◌&&◌, ◌||◌, cond, List, [], ◌∷◌, map, ltb, eqb}
-use Rattle.std.proofs.Math.Option.{Option, some, none}
-use Rattle.grain.specs.Lists.{any}
+use Rattle.std.specs.Prelude.{Bool, true, false, ◌&&◌, ◌||◌, cond, List, [], ◌∷◌, map, ltb, eqb, Option, Some, None}
+use Rattle.std.specs.List.{list_any}
 use Rattle.grain.specs.Amounts.{expanded_of}
 use Rattle.record.specs.Choices.{keep, concat_map}
 use Rattle.record.specs.State.{Day, Level, initial, expanded, Product, Group, Common, with_level, with_mark, with_products, with_limits, with_window, with_sheets, day_of, sheet_or}
@@ -18,18 +17,18 @@ abbrev pub is_ahead : Lead → Lead → Bool
 is_ahead a b = ltb a.month b.month || (eqb a.month b.month && ltb a.product b.product)
 
 abbrev pub ahead_of : Lead → Option Lead → Lead
-ahead_of a none = a
-ahead_of a (some b) = cond (is_ahead b a) b a
+ahead_of a None = a
+ahead_of a (Some b) = cond (is_ahead b a) b a
 
 -- the leading contract of those that meet an event's condition
 abbrev pub leading : List Move → Option Lead
-leading [] = none
-leading (m ∷ ms) = some (ahead_of (record { month = m.month; product = m.product }) (leading ms))
+leading [] = None
+leading (m ∷ ms) = Some (ahead_of (record { month = m.month; product = m.product }) (leading ms))
 
 -- the event that a contract leads, or the other one where none meets the condition
 abbrev pub led_by : Option Lead → (Lead → Event) → Event → Event
-led_by none event other = other
-led_by (some l) event other = event l
+led_by None event other = other
+led_by (Some l) event other = event l
 
 -- of a product's moves, those that trigger, if they are enough
 abbrev pub triggering : Conditions → List Move → List Move
@@ -77,11 +76,11 @@ unfoldable pub end_product : Day → Event → Product → Product
 end_product d e q =
     with_limits (cond (is_raised e) q.expanded_limit q.initial_limit)
     (cond (is_raised e) (expanded_of q.number q.expanded_limit) q.expanded_limit)
-    (with_window (window_after d q.number q.window (sheet_or q.today)) (with_sheets none q.today q))
+    (with_window (window_after d q.number q.window (sheet_or q.today)) (with_sheets None q.today q))
 
 unfoldable pub end_group : Common → Group → Group
 end_group c g =
     let d = day_of c in
     let e = group_event c g in
-    let marked = (conditions_of c.edition).has_marks && any (any is_at_expanded) (group_moves d g) in
+    let marked = (conditions_of c.edition).has_marks && list_any (list_any is_at_expanded) (group_moves d g) in
     with_level (level_after e) (with_mark (mark_after e marked) (with_products (map (end_product d e) g.products) g))

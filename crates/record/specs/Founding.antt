@@ -1,6 +1,5 @@
 -- Founding, under an edition of the rule, from eight initial limits.
-use Rattle.std.specs.Prelude.{ℕ, Bool, false, not, List, [], ◌∷◌, map, eqb, length, get_or}
-use Rattle.std.proofs.Math.Option.{Option, none}
+use Rattle.std.specs.Prelude.{ℕ, Bool, false, not, List, [], ◌∷◌, map, eqb, length, get_or, Option, None}
 use Rattle.grain.specs.Lists.{◌and◌, every}
 use Rattle.grain.specs.Amounts.{expanded_of, is_fit_founding}
 use Rattle.grain.specs.Products.{product_count}
@@ -35,8 +34,8 @@ found_product s p =
       initial_limit = limit_of s p;
       expanded_limit = expanded_of p (limit_of s p);
       window = [];
-      today = none;
-      last = none;
+      today = None;
+      last = None;
     }
 
 unfoldable pub found_group : Start → List ℕ → Group
@@ -45,6 +44,6 @@ found_group s ps = record { level = initial; mark = false; products = map (found
 unfoldable pub founded : Start → Record
 founded s =
     record {
-      common = record { edition = s.edition; opened = none; is_open = false };
+      common = record { edition = s.edition; opened = None; is_open = false };
       groups = map (found_group s) group_table;
     }

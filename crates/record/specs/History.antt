@@ -1,6 +1,5 @@
 -- The history of a list of calls: what was accepted, latest first, read off the calls and the answers alone.
-use Rattle.std.specs.Prelude.{ℕ, Bool, true, false, cond, List, [], ◌∷◌, map, ◌≡◌, eqb, get_or}
-use Rattle.std.proofs.Math.Option.{Option, some, none}
+use Rattle.std.specs.Prelude.{ℕ, Bool, true, false, cond, List, [], ◌∷◌, map, ◌≡◌, eqb, get_or, Option, Some, None}
 use Rattle.record.specs.State.{Day, Sheet, group_table}
 use Rattle.record.specs.Sheet.{contracts}
 use Rattle.record.specs.Record.{Call, opening, sheet, end, check, Answer, refused, opened, filed, ended, checked}
@@ -52,8 +51,8 @@ kept cs as' = kept_from [] cs as'
 
 -- the sheet that a product got on a day, if any
 abbrev pub sheet_among : List ProductSheet → ℕ → Option Sheet
-sheet_among [] p = none
-sheet_among (f ∷ fs) p = cond (eqb p f.product) (some f.sheet) (sheet_among fs p)
+sheet_among [] p = None
+sheet_among (f ∷ fs) p = cond (eqb p f.product) (Some f.sheet) (sheet_among fs p)
 
 -- An opening by date and left, and whether the day is ended.
 pub data Milestone : Type 0 where

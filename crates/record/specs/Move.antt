@@ -1,6 +1,5 @@
 -- The moves of a day: how far each contract settled from where the last ended day left it, and the tests of a move.
-use Rattle.std.specs.Prelude.{ℕ, pred, Bool, not, ◌&&◌, List, [], ◌∷◌, ◌++◌, map, leb, ltb, eqb}
-use Rattle.std.proofs.Math.Option.{Option, some, none}
+use Rattle.std.specs.Prelude.{ℕ, pred, Bool, not, ◌&&◌, List, [], ◌∷◌, ◌++◌, map, leb, ltb, eqb, Option, Some, None}
 use Rattle.grain.specs.Lists.{distance}
 use Rattle.grain.specs.Products.{first_of, is_last_crop_month}
 use Rattle.record.specs.Choices.{keep}
@@ -20,8 +19,8 @@ pub record Move : Type 0 where
 
 -- a contract that is not on the last ended sheet has no change
 abbrev pub move_from : Product → Bool → Contract → Option ℕ → List Move
-move_from q is_first c none = []
-move_from q is_first c (some before) =
+move_from q is_first c None = []
+move_from q is_first c (Some before) =
     record {
       month = c.month;
       product = q.number;

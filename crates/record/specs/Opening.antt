@@ -1,7 +1,6 @@
 -- The opening of a day.
-use Rattle.std.specs.Prelude.{ℕ, ◌+◌, ◌*◌, Bool, false, not, ◌&&◌, cond, List, [], ◌∷◌, map, leb, eqb, length}
-use Rattle.std.proofs.Math.Option.{Option, some, none}
-use Rattle.grain.specs.Lists.{any}
+use Rattle.std.specs.Prelude.{ℕ, ◌+◌, ◌*◌, Bool, false, not, ◌&&◌, cond, List, [], ◌∷◌, map, leb, eqb, length, Option, Some, None}
+use Rattle.std.specs.List.{list_any}
 use Rattle.grain.specs.Amounts.{window_length, expanded_of, season_of}
 use Rattle.grain.specs.Dates.{is_date, days_remaining, season_number}
 use Rattle.grain.specs.Refusals.{no_such_date}
@@ -16,16 +15,16 @@ abbrev pub date_number : Day → ℕ
 date_number d = d.year * 10000 + d.month * 100 + d.day
 
 abbrev pub is_not_later : Option Day → Day → Bool
-is_not_later none d = false
-is_not_later (some before) d = leb (date_number d) (date_number before)
+is_not_later None d = false
+is_not_later (Some before) d = leb (date_number d) (date_number before)
 
 abbrev pub is_same_month : Day → Day → Bool
 is_same_month before d = eqb d.year before.year && eqb d.month before.month
 
 -- in the month of the last opened day, with a left that has not fallen since
 abbrev pub is_left_not_smaller : Option Day → Day → Bool
-is_left_not_smaller none d = false
-is_left_not_smaller (some before) d = is_same_month before d && leb before.left d.left
+is_left_not_smaller None d = false
+is_left_not_smaller (Some before) d = is_same_month before d && leb before.left d.left
 
 -- the refusals after 1, in their order
 unfoldable pub opening_tests : Common → Day → List Test
@@ -41,12 +40,12 @@ season_on d = season_number (month_of d)
 
 -- exactly one season after that of the last opened day
 abbrev pub is_next_season : Option Day → Day → Bool
-is_next_season none d = false
-is_next_season (some before) d = eqb (season_on d) (season_on before + 1)
+is_next_season None d = false
+is_next_season (Some before) d = eqb (season_on d) (season_on before + 1)
 
 abbrev pub is_other_season : Option Day → Day → Bool
-is_other_season none d = false
-is_other_season (some before) d = not (eqb (season_on d) (season_on before))
+is_other_season None d = false
+is_other_season (Some before) d = not (eqb (season_on d) (season_on before))
 
 -- the product gets its season limits
 unfoldable pub is_renewed : Common → Day → Product → Bool
@@ -60,7 +59,7 @@ open_product c d q =
 
 -- a product of the group gets its season limits
 unfoldable pub has_new_limits : Common → Day → Group → Bool
-has_new_limits c d g = any (is_renewed c d) g.products
+has_new_limits c d g = list_any (is_renewed c d) g.products
 
 -- a group with new limits starts the season at the initial level, with no mark; any other keeps its level and mark
 unfoldable pub open_group : Common → Day → Group → Group

@@ -1,11 +1,10 @@
 -- The Record: the calls, what refuses them, what they answer, and what they change.
-use Rattle.std.specs.Prelude.{ℕ, Bool, true, false, not, List, [], ◌∷◌, ◌++◌, map}
-use Rattle.std.proofs.Math.Option.{Option, some, none}
-use Rattle.grain.specs.Lists.{any}
+use Rattle.std.specs.Prelude.{ℕ, Bool, true, false, not, List, [], ◌∷◌, ◌++◌, map, Option, Some, None, is_some}
+use Rattle.std.specs.List.{list_any}
 use Rattle.grain.specs.Products.{is_product}
 use Rattle.grain.specs.Refusals.{no_such_product}
 use Rattle.grain.specs.declared.check.Verdict.{Verdict}
-use Rattle.record.specs.Choices.{concat_map, is_some}
+use Rattle.record.specs.Choices.{concat_map}
 use Rattle.record.specs.Refusals.{Test, when, first, unsound, wrong_phase, sheet_outstanding}
 use Rattle.record.specs.State.{Day, Group, Common, Record, with_opened, with_is_open, group_of, group_at}
 use Rattle.record.specs.Opening.{opening_tests, is_renewed, open_group}
@@ -36,7 +35,7 @@ abbrev pub terms_in : Record → ℕ → ℕ → Terms
 terms_in r p size = terms_of r.common (group_at r (group_of p)) p size
 
 unfoldable pub is_outstanding : Group → Bool
-is_outstanding g = any (λ q. not (is_some q.today)) g.products
+is_outstanding g = list_any (λ q. not (is_some q.today)) g.products
 
 -- the tests of a call after 1, in its order
 unfoldable pub tests : Record → Call → List Test
@@ -46,7 +45,7 @@ tests r (sheet p ms ss) =
     ∷ when (not (is_product p)) no_such_product
     ∷ sheet_tests r.common (group_at r (group_of p)) p ms ss
 tests r end =
-    when (not r.common.is_open) wrong_phase ∷ when (any is_outstanding r.groups) sheet_outstanding ∷ []
+    when (not r.common.is_open) wrong_phase ∷ when (list_any is_outstanding r.groups) sheet_outstanding ∷ []
 tests r (check p size month price) = terms_tests r.common p size ++ order_tests (terms_in r p size) month price
 
 -- the first number that refuses, 1 before the tests; judged by the Record's own contents
@@ -70,7 +69,7 @@ answer r (check p size month price) = checked (judged (terms_in r p size) month 
 
 -- what an accepted call leaves, of what is common and of each group
 unfoldable pub next_common : Common → Call → Common
-next_common c (opening d) = with_opened (some d) (with_is_open true c)
+next_common c (opening d) = with_opened (Some d) (with_is_open true c)
 next_common c (sheet p ms ss) = c
 next_common c end = with_is_open false c
 next_common c (check p size month price) = c
@@ -86,12 +85,12 @@ next r c = record { common = next_common r.common c; groups = map (next_group r.
 
 -- a refused call answers its number and changes nothing
 abbrev pub state_by : Option ℕ → Record → Call → Record
-state_by (some n) r c = r
-state_by none r c = next r c
+state_by (Some n) r c = r
+state_by None r c = next r c
 
 abbrev pub answer_by : Option ℕ → Answer → Answer
-answer_by (some n) a = refused n
-answer_by none a = a
+answer_by (Some n) a = refused n
+answer_by None a = a
 
 -- what a month and price get on terms: 14, 8 or the answer
 abbrev pub order_answer : Terms → ℕ → ℕ → Answer

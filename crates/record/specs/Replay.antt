@@ -1,6 +1,5 @@
 -- The Record's contents from a history alone: each day is opened, gets its sheets at once, and is ended.
-use Rattle.std.specs.Prelude.{Bool, true, false, not, List, [], ◌∷◌, map}
-use Rattle.std.proofs.Math.Option.{Option, some, none}
+use Rattle.std.specs.Prelude.{Bool, true, false, not, List, [], ◌∷◌, map, Option, Some, None}
 use Rattle.record.specs.State.{Sheet, Product, Group, Common, Record, with_opened, with_is_open, with_products, with_today}
 use Rattle.record.specs.Opening.{open_group}
 use Rattle.record.specs.End.{end_group}
@@ -8,8 +7,8 @@ use Rattle.record.specs.History.{ProductSheet, Entry, a_day, sheet_among}
 
 -- a sheet that came, or else what was there
 abbrev pub over : Option Sheet → Option Sheet → Option Sheet
-over none o = o
-over (some s) o = some s
+over None o = o
+over (Some s) o = Some s
 
 unfoldable pub product_with : List ProductSheet → Product → Product
 product_with fs q = with_today (over (sheet_among fs q.number) q.today) q
@@ -24,12 +23,12 @@ ended_if false c g = g
 
 -- what an entry makes of what is common before it
 abbrev pub common_by : Entry → Common → Common
-common_by (a_day k) c = with_opened (some k.day) (with_is_open (not k.is_ended) c)
+common_by (a_day k) c = with_opened (Some k.day) (with_is_open (not k.is_ended) c)
 
 -- what an entry makes of a group; c is common before it
 abbrev pub group_by : Entry → Common → Group → Group
 group_by (a_day k) c g =
-    ended_if k.is_ended (with_opened (some k.day) (with_is_open true c))
+    ended_if k.is_ended (with_opened (Some k.day) (with_is_open true c))
     (group_with k.sheets (open_group c k.day g))
 
 -- what is common after a history that began with c

@@ -1,19 +1,17 @@
 -- A sound Record: every field in its range, and the parts in agreement.
-use Rattle.std.specs.Prelude.{ℕ, Bool, true, false, not, ◌&&◌, ◌||◌, List, map, leb, eqb, length}
-use Rattle.std.proofs.Math.Option.{Option, some, none}
+use Rattle.std.specs.Prelude.{ℕ, Bool, true, false, not, ◌&&◌, ◌||◌, List, map, leb, eqb, length, Option, Some, None, is_some}
 use Rattle.grain.specs.Lists.{◌and◌, every, is_ascending}
 use Rattle.grain.specs.Products.{is_product, is_traded}
 use Rattle.grain.specs.Prices.{is_settlement}
 use Rattle.grain.specs.Amounts.{window_length, expanded_of, is_fit_amount}
-use Rattle.record.specs.Choices.{is_some}
 use Rattle.record.specs.State.{max_contracts, Day, Contract, Sheet, Level, initial, expanded, Product, Group, Record}
 use Rattle.record.specs.Edition.{is_edition, conditions_of}
 use Rattle.record.specs.Opening.{is_true_day}
 
 -- 1 to 16 contracts, months as in 7 without the date test, settlements on the standard tick
 unfoldable pub is_sound_sheet : ℕ → Option Sheet → Bool
-is_sound_sheet p none = true
-is_sound_sheet p (some s) =
+is_sound_sheet p None = true
+is_sound_sheet p (Some s) =
     leb 1 (length s) and leb (length s) max_contracts
     and is_ascending (map (λ (c : Contract). c.month) s)
     and every (is_traded p) (map (λ (c : Contract). c.month) s)
@@ -41,8 +39,8 @@ is_sound_group edition g =
 
 -- a date where a day is open
 unfoldable pub is_sound_date : Option Day → Bool → Bool
-is_sound_date none is_open = not is_open
-is_sound_date (some d) is_open = is_true_day d
+is_sound_date None is_open = not is_open
+is_sound_date (Some d) is_open = is_true_day d
 
 abbrev pub every_product : (Product → Bool) → List Group → Bool
 every_product f gs = every (λ g. every f g.products) gs

@@ -1,11 +1,9 @@
 -- The contents of the Record, the rule's name for the plain second book: what all groups share, and a part for each group.
-use Rattle.std.specs.Prelude.{ℕ, suc, Bool, false, cond, List, [], ◌∷◌, eqb, get_or}
-use Rattle.std.proofs.Math.Option.{Option, some, none}
+use Rattle.std.specs.Prelude.{ℕ, suc, Bool, false, cond, List, [], ◌∷◌, eqb, get_or, Option, Some, None, unwrap_or}
 use Rattle.grain.specs.Lists.{is_in}
 use Rattle.grain.specs.Dates.{contract_month}
 use Rattle.grain.specs.declared.spot.TradeDate.{TradeDate}
 use Rattle.grain.specs.Spot.{is_spot}
-use Rattle.record.specs.Choices.{or_else}
 -- a date with what the rule calls left, the business days of that month after this day; and a contract of a sheet
 pub use Rattle.record.specs.declared.Day.{Day}
 pub use Rattle.record.specs.declared.Contract.{Contract}
@@ -117,13 +115,13 @@ abbrev pub no_day : Day
 no_day = record { year = 0; month = 0; day = 0; left = 0 }
 
 abbrev pub no_product : Product
-no_product = record { number = 0; initial_limit = 0; expanded_limit = 0; window = []; today = none; last = none }
+no_product = record { number = 0; initial_limit = 0; expanded_limit = 0; window = []; today = None; last = None }
 
 abbrev pub no_group : Group
 no_group = record { level = initial; mark = false; products = [] }
 
 abbrev pub day_of : Common → Day
-day_of c = or_else c.opened no_day
+day_of c = unwrap_or c.opened no_day
 
 -- the contract month of a date
 abbrev pub month_of : Day → ℕ
@@ -155,9 +153,9 @@ abbrev pub todays_limit : Group → ℕ → ℕ
 todays_limit g p = limit_at g.level (product_in g p).initial_limit (product_in g p).expanded_limit
 
 abbrev pub sheet_or : Option Sheet → Sheet
-sheet_or s = or_else s []
+sheet_or s = unwrap_or s []
 
 -- the settlement of a month on a sheet
 abbrev pub settlement_on : Sheet → ℕ → Option ℕ
-settlement_on [] month = none
-settlement_on (c ∷ s) month = cond (eqb c.month month) (some c.settlement) (settlement_on s month)
+settlement_on [] month = None
+settlement_on (c ∷ s) month = cond (eqb c.month month) (Some c.settlement) (settlement_on s month)

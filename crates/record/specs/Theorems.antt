@@ -1,7 +1,7 @@
 -- What is shown of the Record, for every list of calls from a founded one. proofs/Proved.antt has the proofs.
-use Rattle.std.specs.Prelude.{ℕ, ◌<◌, ◌≤◌, ◌≡◌, Bool, true, false, not, ◌&&◌, List, [], ◌∷◌, ◌++◌, leb, eqb}
-use Rattle.std.proofs.Math.Option.{some, none}
-use Rattle.grain.specs.Lists.{every, any, is_in, distance}
+use Rattle.std.specs.Prelude.{ℕ, ◌<◌, ◌≤◌, ◌≡◌, Bool, true, false, not, ◌&&◌, List, [], ◌∷◌, ◌++◌, leb, eqb, Some, None}
+use Rattle.std.specs.List.{list_any}
+use Rattle.grain.specs.Lists.{every, is_in, distance}
 use Rattle.grain.specs.Check.{span_in, is_within}
 use Rattle.grain.specs.declared.check.Span.{Span}
 use Rattle.grain.specs.declared.check.Verdict.{Verdict}
@@ -39,7 +39,7 @@ abbrev pub has_raised : Answer → Bool
 has_raised (refused n) = false
 has_raised (opened l) = false
 has_raised filed = false
-has_raised (ended events) = any is_raised events
+has_raised (ended events) = list_any is_raised events
 has_raised (checked v) = false
 
 -- ---- one level for a group
@@ -70,7 +70,7 @@ pub record Together (r : Record) : Type 0 where
 -- a price of a listed, non-spot contract beyond its product's I and not beyond its E
 pub record BetweenLimits (r : Record) (p month price : ℕ) : Type 0 where
   pub settlement : ℕ
-  pub is_listed : listed (trade_date (day_of r.common)) (sheet_or (product_in (group_at r (group_of p)) p).last) month ≡ some settlement
+  pub is_listed : listed (trade_date (day_of r.common)) (sheet_or (product_in (group_at r (group_of p)) p).last) month ≡ Some settlement
   pub not_spot : is_spot_on (day_of r.common) month ≡ false
   pub beyond_initial : (product_in (group_at r (group_of p)) p).initial_limit < distance price settlement
   pub not_beyond_expanded : distance price settlement ≤ (product_in (group_at r (group_of p)) p).expanded_limit
@@ -88,16 +88,16 @@ pub record Resent (r : Record) (p size month : ℕ) (s : Span) : Type 0 where
 -- ---- the theorems
 pub record Theorems : Type 0 where
   -- the Record stays sound, so that no call of a list answers 1
-  pub stays_sound : (s : Start) → founding_refusal s ≡ none → (cs : List Call) → is_sound (after s cs) ≡ true
+  pub stays_sound : (s : Start) → founding_refusal s ≡ None → (cs : List Call) → is_sound (after s cs) ≡ true
   pub never_unsound :
-      (s : Start) → founding_refusal s ≡ none → (cs : List Call)
+      (s : Start) → founding_refusal s ≡ None → (cs : List Call)
       → every (λ a. not (is_refusal unsound a)) (answers (founded s) cs) ≡ true
   -- the state after a list is the replay of its history
   pub replayed : (s : Start) (cs : List Call) → after s cs ≡ replay (history_of s cs) (founded s)
   -- a book is of the edition that it was founded under, and under 2014 no group is raised
   pub keeps_edition : (s : Start) (cs : List Call) → (after s cs).common.edition ≡ s.edition
   pub never_raised :
-      (s : Start) → founding_refusal s ≡ none → s.edition ≡ 2014 → (cs : List Call)
+      (s : Start) → founding_refusal s ≡ None → s.edition ≡ 2014 → (cs : List Call)
       → every (λ a. not (has_raised a)) (answers (founded s) cs) ≡ true
   -- the products of a group stand on one level
   pub together : (s : Start) (cs : List Call) → Together (after s cs)
@@ -109,11 +109,11 @@ pub record Theorems : Type 0 where
   -- an order that is sent again at an end of the span that its check showed is within, and so are those between, and no others
   pub resent :
       (s : Start) (cs : List Call) (p size month price : ℕ) (v : Verdict) (allowed : Span)
-      → check_after s cs p size month price ≡ checked v → span_in v ≡ some allowed → Resent (after s cs) p size month allowed
+      → check_after s cs p size month price ≡ checked v → span_in v ≡ Some allowed → Resent (after s cs) p size month allowed
   -- a contract month that a check found free is free in every later check that is answered, of any product and price: the left falls
   -- within a month, so that a month once spot stays so
   pub stays_free :
-      (s : Start) → founding_refusal s ≡ none → (cs ds : List Call) (p q i j month x y : ℕ) (v : Verdict)
+      (s : Start) → founding_refusal s ≡ None → (cs ds : List Call) (p q i j month x y : ℕ) (v : Verdict)
       → check_after s cs p i month x ≡ checked Free → check_after s (cs ++ ds) q j month y ≡ checked v → v ≡ Free
   -- two lists with the same openings and ends accepted and the same sheets of one group on each day: the same day is open after both, or none
   pub same_day :
@@ -125,6 +125,6 @@ pub record Theorems : Type 0 where
       → group_at (after s cs) g ≡ group_at (after s ds) g
   -- and any price check on it gets the same answer or refusal number
   pub same_checks :
-      (s : Start) → founding_refusal s ≡ none → (g : ℕ) (cs ds : List Call)
+      (s : Start) → founding_refusal s ≡ None → (g : ℕ) (cs ds : List Call)
       → SameFor g (history_of s cs) (history_of s ds) → (p size month price : ℕ) → group_of p ≡ g
       → check_after s cs p size month price ≡ check_after s ds p size month price

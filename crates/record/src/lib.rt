@@ -1,10 +1,8 @@
 // What the Record and a book both speak of. The Record itself is definitions and theorems: specs/ and proofs/.
 #![tactic(auto)]
 
-pub mod refusals;
-
 // A date with its left: the business days of its month after it.
-#[derive(Clone, Copy)]
+#[derive(Clone, Copy, Debug, Default, PartialEq, Eq)]
 pub struct Day {
     pub year: u32,
     pub month: u32,
@@ -15,21 +13,21 @@ pub struct Day {
 // How many contracts a sheet can have.
 pub const MAX_CONTRACTS: usize = 16;
 
-#[derive(Clone, Copy)]
+#[derive(Clone, Copy, Debug, Default, PartialEq, Eq)]
 pub struct Contract {
     pub month: u32,
     pub settlement: u32,
 }
 
 // The leading contract of an event.
-#[derive(Clone, Copy)]
+#[derive(Clone, Copy, Debug, PartialEq, Eq)]
 pub struct Lead {
     pub month: u32,
     pub product: u32,
 }
 
 // What the end of a day is for a group.
-#[derive(Clone, Copy)]
+#[derive(Clone, Copy, Debug, PartialEq, Eq)]
 pub enum Event {
     Quiet,
     Triggered(Lead),
@@ -40,9 +38,3 @@ pub enum Event {
 
 // How many groups the products form.
 pub const GROUP_COUNT: usize = 5;
-
-// An event as an element of an array: of what an end answers, one for each group.
-#[derive(Clone, Copy)]
-pub struct GroupEvent {
-    pub event: Event,
-}
