@@ -1,18 +1,13 @@
 -- The three tests of a sheet in one loop: what is left of the contracts is tested from the least month that the next may have.
-use Prim.Native.Nat.{ℕ, ◌+◌, ◌<◌, ◌≤◌, min}
-use mathlib.Core.Path.{◌≡◌, refl, ◌∙◌, ap}
-use mathlib.Core.Bool.{Bool, true, false, ◌&&◌}
-use mathlib.Core.List.{List, [], ◌∷◌}
-use native.Mathlib.Numerals.{add-one}
-use lib.Dec.{leb, leb-zero}
-use lib.ListN.{length, drop, get_or}
+use Rattle.std.proofs.Common.{◌≡◌, refl, ◌∙◌, ap, ℕ, ◌+◌, ◌<◌, ◌≤◌, Bool, true, false, ◌&&◌, List, [], ◌∷◌, length, drop, get_or, leb, add-one}
+use lib.Dec.{leb-zero}
+use Rattle.std.proofs.Math.Seq.{drop-cons}
+use lib.ListN.{drop_of_length-le}
 use Rattle.grain.specs.Lists.{◌and◌, every, is_ascending}
 use Rattle.grain.specs.Products.{is_traded}
 use Rattle.grain.specs.Prices.{is_settlement}
 use Rattle.record.specs.declared.Contract.{Contract}
-use Rattle.sheets.specs.declared.Sheet.{Sheet}
-use Rattle.sheets.specs.Sheets.{no_contract, entries_of, are_sound_contracts}
-use Rattle.sheets.proofs.Rest.{rest_next, rest_end}
+use Rattle.sheets.specs.Sheets.{no_contract, are_sound_contracts}
 
 abbrev is_sound_contract : ℕ → ℕ → Contract → Bool
 is_sound_contract p from c = leb from c.month and is_traded p c.month and is_settlement p c.settlement
@@ -54,21 +49,23 @@ unfolding sound_from ◌and◌
 sound_start p [] = refl
 sound_start p (c ∷ cs) = rw (leb-zero c.month)
 
-module _ (s : Sheet) (i n : ℕ) (long : length s.contracts ≡ 16) (e : n ≡ min 16 s.len) (p from : ℕ) where
-  sound_next : i < n → sound_from p from (drop i (entries_of s))
-      ≡ (is_sound_contract p from (get_or s.contracts i no_contract)
-      and sound_from p ((get_or s.contracts i no_contract).month + 1) (drop (i + 1) (entries_of s)))
-  sound_next h = ap (sound_from p from) (rest_next s i n long e h) ∙ sound_cons p from _ _
+drop-next : (cs : List Contract) (i : ℕ) (d : Contract) → i < length cs → drop i cs ≡ get_or cs i d ∷ drop (i + 1) cs
+drop-next cs i d h = rw add-one (drop-cons cs i d h)
 
-  pub sound_fails : i < n → is_sound_contract p from (get_or s.contracts i no_contract) ≡ false → sound_from p from (drop i (entries_of s)) ≡ false
+module _ (cs : List Contract) (i p from : ℕ) where
+  sound_next : i < length cs → sound_from p from (drop i cs)
+      ≡ (is_sound_contract p from (get_or cs i no_contract) and sound_from p ((get_or cs i no_contract).month + 1) (drop (i + 1) cs))
+  sound_next h = ap (sound_from p from) (drop-next cs i no_contract h) ∙ sound_cons p from _ _
+
+  pub sound_fails : i < length cs → is_sound_contract p from (get_or cs i no_contract) ≡ false → sound_from p from (drop i cs) ≡ false
   unfolding ◌and◌
   sound_fails h fails = sound_next h ∙ rw fails
 
-  pub sound_goes_on : i < n → is_sound_contract p from (get_or s.contracts i no_contract) ≡ true
-      → sound_from p from (drop i (entries_of s)) ≡ sound_from p ((get_or s.contracts i no_contract).month + 1) (drop (i + 1) (entries_of s))
+  pub sound_goes_on : i < length cs → is_sound_contract p from (get_or cs i no_contract) ≡ true
+      → sound_from p from (drop i cs) ≡ sound_from p ((get_or cs i no_contract).month + 1) (drop (i + 1) cs)
   unfolding ◌and◌
   sound_goes_on h passes = sound_next h ∙ rw passes
 
-  pub sound_end : n ≤ i → sound_from p from (drop i (entries_of s)) ≡ true
+  pub sound_end : length cs ≤ i → sound_from p from (drop i cs) ≡ true
   unfolding sound_from ◌and◌ every is_ascending
-  sound_end h = ap (sound_from p from) (rest_end s i n long e h)
+  sound_end h = ap (sound_from p from) (drop_of_length-le cs h)

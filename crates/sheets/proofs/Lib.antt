@@ -1,5 +1,6 @@
 pub mod Rest
 pub mod Fills
-pub mod Lookups
 pub mod Soundness
 pub mod InOneLoop
+pub mod Lookups
+pub mod Yielded

@@ -7,7 +7,7 @@ use lib.Seq.{length-take-le}
 use borrow.Author.Tests.{le-leb, ne_eqb}
 use Rattle.grain.specs.Lists.{◌and◌}
 use Rattle.record.specs.Sound.{is_sound_sheet}
-use Rattle.sheets.specs.declared.Sheet.{Sheet}
+use Rattle.sheets.specs.declared.sheet.Sheet.{Sheet}
 use Rattle.sheets.specs.Sheets.{entries_of, sheet_in, are_sound_contracts}
 use Rattle.sheets.proofs.Rest.{counted}
 

@@ -1,18 +1,18 @@
 -- What a sheet of the book means: the Record's contracts within its count.
-use Rattle.std.specs.Prelude.{ℕ, ◌+◌, ◌≡◌, Bool, cond, List, map, leb, eqb, length, take, replicate}
-use Rattle.std.proofs.Math.Option.{Option, some, none}
+use Rattle.std.specs.Prelude.{ℕ, ◌+◌, ◌≡◌, Bool, cond, List, map, leb, eqb, length, take, replicate, Option, Some, None}
 use Rattle.grain.specs.Lists.{◌and◌, every, is_ascending}
 use Rattle.grain.specs.Products.{is_traded}
 use Rattle.grain.specs.Prices.{is_settlement}
 use Rattle.record.specs.declared.Contract.{Contract}
 use Rattle.record.specs.State.{max_contracts}
 use Rattle.record.specs.Sheet.{contracts}
-use Rattle.sheets.specs.declared.Sheet.{Sheet}
-use Rattle.sheets.specs.declared.lookup.Listed.{Listed}
-use Rattle.sheets.specs.declared.lookup.Listed.TheVariants.{At, Nothing}
+use Rattle.sheets.specs.declared.sheet.Sheet.{Sheet}
 
 abbrev pub no_contract : Contract
 no_contract = record { month = 0; settlement = 0 }
+
+abbrev pub empty_sheet : Sheet
+empty_sheet = record { contracts = replicate max_contracts no_contract; len = 0 }
 
 -- the contracts in the places that the count reaches, which every sheet has
 unfoldable pub entries_of : Sheet → List Contract
@@ -24,7 +24,7 @@ contracts_of s = cond (leb s.len max_contracts) (entries_of s) (replicate (max_c
 
 -- a product's sheet, or none where its count is 0
 unfoldable pub sheet_in : Sheet → Option (List Contract)
-sheet_in s = cond (eqb s.len 0) none (some (contracts_of s))
+sheet_in s = cond (eqb s.len 0) None (Some (contracts_of s))
 
 abbrev pub months_of : List Contract → List ℕ
 months_of cs = map (λ (c : Contract). c.month) cs
@@ -41,8 +41,3 @@ pub record SheetOf (months settlements : List ℕ) (s : Sheet) : Type 0 where
 abbrev pub are_sound_contracts : ℕ → List Contract → Bool
 are_sound_contracts p cs =
     is_ascending (months_of cs) and every (is_traded p) (months_of cs) and every (is_settlement p) (settlements_of cs)
-
--- what a look-up answers for a settlement or none
-abbrev pub listed_as : Option ℕ → Listed
-listed_as none = Nothing
-listed_as (some v) = At v

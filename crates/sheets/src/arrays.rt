@@ -1,10 +1,9 @@
-// A sheet from two lent arrays.
-ghost use Rattle.std.specs.Prelude.{◌≡◌, min};
-ghost use Rattle.std.proofs.Math.Option.{none};
+// A sheet from two arrays, as C lends them.
+ghost use Rattle.std.specs.Prelude.{◌≡◌};
 ghost use Rattle.record.specs.Sheet.{is_misshapen};
-ghost use Rattle.sheets.specs.Sheets.{sheet_in, SheetOf};
+ghost use Rattle.sheets.specs.Sheets.{SheetOf};
 
-use crate::{Sheet, reach};
+use crate::Sheet;
 use record::{Contract, MAX_CONTRACTS};
 
 pub fn is_misshapen(months: &[u32], settlements: &[u32]) -> bool
@@ -13,19 +12,10 @@ pub fn is_misshapen(months: &[u32], settlements: &[u32]) -> bool
     if months.len() != settlements.len() {
         return true;
     }
-    if months.len() == 0 {
+    if months.is_empty() {
         return true;
     }
     MAX_CONTRACTS < months.len()
-}
-
-fn smaller(a: usize, b: usize) -> usize
-    ensures { result ≡ min a b }
-{
-    if a < b {
-        return a;
-    }
-    b
 }
 
 impl Sheet {
@@ -33,32 +23,22 @@ impl Sheet {
     pub fn of(months: &[u32], settlements: &[u32]) -> Sheet
         ensures { SheetOf months.now settlements.now result }
     {
-        let n = reach(smaller(months.len(), settlements.len()));
-        let mut all = [Contract {
-            month: 0,
-            settlement: 0,
-        }; MAX_CONTRACTS];
-        for i in 0..n {
+        let n = months.len().min(settlements.len()).min(MAX_CONTRACTS);
+        let mut all = [Contract::default(); MAX_CONTRACTS];
+        for (i, (month, settlement)) in months
+            .iter()
+            .zip(settlements)
+            .take(MAX_CONTRACTS)
+            .enumerate()
+        {
             all[i] = Contract {
-                month: months[i],
-                settlement: settlements[i],
+                month: *month,
+                settlement: *settlement,
             };
         }
         Sheet {
             contracts: all,
             len: n,
-        }
-    }
-
-    pub fn none() -> Sheet
-        ensures { sheet_in result ≡ none }
-    {
-        Sheet {
-            contracts: [Contract {
-                month: 0,
-                settlement: 0,
-            }; MAX_CONTRACTS],
-            len: 0,
         }
     }
 }

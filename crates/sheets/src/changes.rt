@@ -1,77 +1,48 @@
 // A sheet against the last ended one: what is missing, and what moved too far.
 ghost use Rattle.std.specs.Prelude.{◌≡◌};
-ghost use Rattle.grain.specs.Lists.{distance as apart};
 ghost use Rattle.grain.specs.Spot.{is_spot};
 ghost use Rattle.record.specs.Sheet.{is_absent, lacks_contract, has_moved_beyond, is_beyond};
 ghost use Rattle.sheets.specs.Sheets.{entries_of};
 
-use crate::lookup::Listed;
-use crate::{Sheet, reach};
+use crate::Sheet;
 use grain::TradeDate;
 use record::Contract;
 
-fn is_absent(c: Contract, date: TradeDate, s: Sheet) -> bool
-    ensures { result ≡ is_absent (is_spot date) (entries_of s) c }
+fn is_absent(contract: &Contract, date: TradeDate, sheet: &Sheet) -> bool
+    ensures { result ≡ is_absent (is_spot date) (entries_of sheet.now) contract.now }
 {
-    let month = c.month;
-    if date.is_spot(month) {
+    if date.is_spot(contract.month) {
         return false;
     }
-    let Listed::At(_) = s.find(month) else {
-        return true;
-    };
-    false
+    sheet.find(contract.month).is_none()
 }
 
-// How far two settlements are apart, up or down.
-pub fn distance(a: u32, b: u32) -> u32
-    ensures { result ≡ apart a b }
+fn has_moved_beyond(contract: &Contract, date: TradeDate, limit: u32, last: &Sheet) -> bool
+    ensures { result ≡ has_moved_beyond (is_spot date) limit (entries_of last.now) contract.now }
 {
-    if a < b {
-        return b - a;
-    }
-    a - b
-}
-
-fn has_moved_beyond(c: Contract, date: TradeDate, limit: u32, last: Sheet) -> bool
-    ensures { result ≡ has_moved_beyond (is_spot date) limit (entries_of last) c }
-{
-    let month = c.month;
-    if date.is_spot(month) {
+    if date.is_spot(contract.month) {
         return false;
     }
-    let Listed::At(earlier) = last.find(month) else {
+    let Some(earlier) = last.find(contract.month) else {
         return false;
     };
-    limit < distance(c.settlement, earlier)
+    limit < contract.settlement.abs_diff(earlier)
 }
 
 impl Sheet {
     // A contract of the last ended sheet, non-spot on the date, is not on this one.
-    pub fn lacks_contract(self, date: TradeDate, last: Sheet) -> bool
-        ensures { result ≡ lacks_contract (is_spot date) (entries_of last) (entries_of self) }
+    pub fn lacks_contract(&self, date: TradeDate, last: &Sheet) -> bool
+        ensures { result ≡ lacks_contract (is_spot date) (entries_of last.now) (entries_of self.now) }
     {
-        let n = reach(last.len);
-        for i in 0..n {
-            let c = last.contracts[i];
-            if is_absent(c, date, self) {
-                return true;
-            }
-        }
-        false
+        last.entries().iter().any(|c| is_absent(c, date, self))
     }
 
     // A non-spot change from the last ended sheet is beyond the limit.
-    pub fn is_beyond(self, date: TradeDate, limit: u32, last: Sheet) -> bool
-        ensures { result ≡ is_beyond (is_spot date) limit (entries_of last) (entries_of self) }
+    pub fn is_beyond(&self, date: TradeDate, limit: u32, last: &Sheet) -> bool
+        ensures { result ≡ is_beyond (is_spot date) limit (entries_of last.now) (entries_of self.now) }
     {
-        let n = reach(self.len);
-        for i in 0..n {
-            let c = self.contracts[i];
-            if has_moved_beyond(c, date, limit, last) {
-                return true;
-            }
-        }
-        false
+        self.entries()
+            .iter()
+            .any(|c| has_moved_beyond(c, date, limit, last))
     }
 }

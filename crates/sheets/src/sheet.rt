@@ -1,0 +1,38 @@
+// A sheet, and its contracts as a slice.
+ghost use Rattle.std.specs.Prelude.{◌≡◌, not, None, is_some};
+ghost use Rattle.sheets.specs.Sheets.{empty_sheet, entries_of, sheet_in};
+
+use record::{Contract, MAX_CONTRACTS};
+
+// No heap: the places are there whatever the count. An image from C can hold any count, which soundness then judges.
+#[derive(Clone, Copy, Debug, PartialEq, Eq)]
+pub struct Sheet {
+    pub contracts: [Contract; MAX_CONTRACTS],
+    // How many of the places are used; 0 where there is no sheet, and then an image from C keeps what it has in the places.
+    pub len: usize,
+}
+
+impl Sheet {
+    pub fn none() -> Sheet
+        ensures value { result ≡ empty_sheet }
+        ensures none { sheet_in result ≡ None }
+    {
+        Sheet {
+            contracts: [Contract::default(); MAX_CONTRACTS],
+            len: 0,
+        }
+    }
+
+    pub fn is_none(&self) -> bool
+        ensures { result ≡ not (is_some (sheet_in self.now)) }
+    {
+        self.len == 0
+    }
+
+    // The contracts in the places that the count reaches.
+    pub fn entries(&self) -> &[Contract]
+        ensures { result.now ≡ entries_of self.now }
+    {
+        &self.contracts[..self.len.min(MAX_CONTRACTS)]
+    }
+}
