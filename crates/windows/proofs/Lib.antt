@@ -1,6 +1,2 @@
-pub mod Collects
-pub mod Entries
-pub mod Extends
-pub mod Moves
 pub mod Shown
-pub mod Stores
+pub mod Collects
