@@ -16,7 +16,7 @@ pub record Filled {A : Type 0} (n : ℕ) (d : A) (new old : ℕ → A) (p : ℕ)
 
 module _ {A : Type 0} (n : ℕ) (d : A) (new : ℕ → A) where
   pub filled_start : (xs : List A) → length xs ≡ n → Filled n d new (λ q. get_or xs q d) 0 xs
-  filled_start xs long = record { long = long; at = λ q l. let none : 0 ≤ q = omega arith in rw (le-ltb q 0 none) }
+  filled_start xs long = record { long = long; at = λ q l. let low : 0 ≤ q = omega arith in rw (le-ltb q 0 low) }
 
   module _ (old : ℕ → A) (p : ℕ) (xs : List A) (f : Filled n d new old p xs) where
     pub filled_next : p < n → (v : A) → v ≡ new p → Filled n d new old (p + 1) (set xs p v)

@@ -14,3 +14,6 @@ pub mod TodaysLimit
 pub mod Numbered
 pub mod Responses
 pub mod FoundingNumbers
+pub mod ProductTests
+pub mod Items
+pub mod Defaults

@@ -6,7 +6,8 @@ use mathlib.Core.List.{List, [], ◌∷◌, map}
 use native.Mathlib.Nat.{le_of_suc-le-suc, not-suc-le-zero, add-zero, add-suc, zero-add, suc-add}
 use lib.ListN.{length, get_or, drop, length-map}
 use lib.Seq.{ext_get_or}
-use Rattle.grain.specs.Lists.{◌and◌, every, any}
+use Rattle.std.specs.List.{list_any}
+use Rattle.grain.specs.Lists.{◌and◌, every}
 use Rattle.grain.proofs.Tests.{and_left, and_right}
 use Rattle.grain.proofs.Scans.{every_fails, every_goes_on, every_end}
 use Rattle.book.specs.Numbers.{numbers_from}
@@ -78,7 +79,7 @@ module _ {A : Type 0} (t f h : A → Bool) (same : (x : A) → t x ≡ true → 
   every_same [] e = refl
   every_same (x ∷ l) e = ap₂ ◌and◌ (same x (and_left _ _ e)) (every_same l (and_right _ _ e))
 
-  pub any_same : (l : List A) → every t l ≡ true → any f l ≡ any h l
+  pub any_same : (l : List A) → every t l ≡ true → list_any f l ≡ list_any h l
   unfolding every
   any_same [] e = refl
   any_same (x ∷ l) e = ap₂ ◌||◌ (same x (and_left _ _ e)) (any_same l (and_right _ _ e))

@@ -1,9 +1,11 @@
 -- How many products the groups before a group have: where its own begin.
-use Prim.Native.Nat.{ℕ, ◌+◌, ◌-◌, ◌<◌, ◌≤◌}
+use Prim.Native.Nat.{ℕ, zero, suc, ◌+◌, ◌-◌, ◌<◌, ◌≤◌}
 use mathlib.Core.Path.{◌≡◌, refl, sym, ◌∙◌, ap}
-use mathlib.Core.Bool.{Bool, true, false, beq}
+use mathlib.Core.Bool.{Bool, true, false, beq, cond}
 use mathlib.Core.List.{List}
 use native.Mathlib.Omega.{arith}
+use Rattle.std.specs.Prelude.{Option, Some, unwrap_or}
+use Rattle.std.specs.List.{find, range_with_len}
 use lib.Dec.{leb, ltb}
 use lib.ListN.{length}
 use lib.Seq.{take_all}
@@ -40,7 +42,7 @@ before_groups g h p l =
     beq_same _ _ (below product_count (is_before g) (below group_count (λ (g : ℕ). all_below product_count (is_before g)) refl g h) p l)
 
 -- none is before the first group
-pub none_before : (p : ℕ) → products_before 0 ≤ p
+none_before : (p : ℕ) → products_before 0 ≤ p
 unfolding products_before
 none_before p = omega arith
 
@@ -67,7 +69,7 @@ before_most g = go (ltb g group_count) refl
     go false e = let past = all_before g (ltb-false _ _ e) in omega arith
 
 -- a number from the start of g on and before that of the next group is a product of g
-pub between : (g p : ℕ) → products_before g ≤ p → p < products_before (g + 1) → group_of p ≡ g
+between : (g p : ℕ) → products_before g ≤ p → p < products_before (g + 1) → group_of p ≡ g
 between g p from to =
     let l : p < product_count = omega (arith, before_most (g + 1)) in
     let low : g ≤ group_of p = ltb-false _ _ (sym (in_order g p l) ∙ le-ltb p (products_before g) from) in
@@ -75,5 +77,22 @@ between g p from to =
     omega arith
 
 -- one from the end of the last group on is no product
-pub past_all : (g p : ℕ) → group_count ≤ g → products_before g ≤ p → group_of p ≡ group_count
+past_all : (g p : ℕ) → group_count ≤ g → products_before g ≤ p → group_of p ≡ group_count
 past_all g p h l = no_group_lem p (let all = all_before g h in omega arith)
+
+-- the first of n groups from k on that ends after p
+group_from : (p k n : ℕ) → k + n ≡ group_count → products_before k ≤ p
+    → unwrap_or (find (λ (g : ℕ). ltb p (products_before (g + 1))) (range_with_len k n)) group_count ≡ group_of p
+group_from p k zero e from = sym (past_all k p (omega arith) from)
+group_from p k (suc n) e from = go (ltb p (products_before (k + 1))) refl (λ l. group_from p (k + 1) n (omega arith) l)
+  where
+    rest : Option ℕ
+    rest = find (λ (g : ℕ). ltb p (products_before (g + 1))) (range_with_len (k + 1) n)
+
+    go : (b : Bool) → ltb p (products_before (k + 1)) ≡ b → (products_before (k + 1) ≤ p → unwrap_or rest group_count ≡ group_of p)
+        → unwrap_or (cond b (Some k) rest) group_count ≡ group_of p
+    go true t later = sym (between k p from (ltb-true _ _ t))
+    go false t later = later (ltb-false _ _ t)
+
+pub found_group : (p : ℕ) → unwrap_or (find (λ (g : ℕ). ltb p (products_before (g + 1))) (range_with_len 0 group_count)) group_count ≡ group_of p
+found_group p = group_from p 0 group_count refl (none_before p)

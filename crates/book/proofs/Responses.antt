@@ -2,18 +2,18 @@
 use Prim.Native.Nat.{ℕ}
 use mathlib.Core.Path.{◌≡◌, refl}
 use mathlib.Core.List.{List, [], ◌∷◌, map}
-use mathlib.Core.Option.{Option, some, none}
+use Rattle.std.specs.Prelude.{Option, Some, None}
 use Rattle.record.specs.State.{Group, Common}
 use Rattle.record.specs.Record.{Call, check, Answer, refused, refusal, answer, next, next_common, next_group, respond, state_by}
 use Rattle.book.specs.declared.Book.{Book}
 use Rattle.book.specs.Book.{view}
 use Rattle.book.specs.Calls.{Responds}
 
-pub refused_responds : (b : Book) (c : Call) (n : ℕ) → refusal (view b) c ≡ some n → Responds b c (refused n) b
+pub refused_responds : (b : Book) (c : Call) (n : ℕ) → refusal (view b) c ≡ Some n → Responds b c (refused n) b
 unfolding respond
 refused_responds b c n e = record { answer = rw e; state = rw e; unchanged = λ m f. refl }
 
-pub accepted_responds : (b : Book) (c : Call) (a : Answer) (z : Book) → refusal (view b) c ≡ none
+pub accepted_responds : (b : Book) (c : Call) (a : Answer) (z : Book) → refusal (view b) c ≡ None
     → a ≡ answer (view b) c → view z ≡ next (view b) c → Responds b c a z
 unfolding respond
 accepted_responds b c a z e f g = record { answer = rw e f; state = rw e g; unchanged = λ n h. cc (e, h) }
@@ -31,5 +31,5 @@ check_responds b p size month price a e =
     record { answer = e; state = go (refusal (view b) (check p size month price)); unchanged = λ n h. refl }
   where
     go : (o : Option ℕ) → view b ≡ state_by o (view b) (check p size month price)
-    go (some n) = refl
-    go none = rw (check_next (view b).common p size month price (view b).groups)
+    go (Some n) = refl
+    go None = rw (check_next (view b).common p size month price (view b).groups)

@@ -3,23 +3,23 @@ use Prim.Native.Nat.{ℕ}
 use mathlib.Core.Path.{◌≡◌, refl, ◌∙◌, ap, ap₂}
 use mathlib.Core.Bool.{Bool, true, false, not, ◌&&◌, ◌||◌}
 use mathlib.Core.List.{List, map}
-use lib.Dec.{eqb}
+use Rattle.std.specs.List.{list_all}
+use lib.ListN.{length}
 use Rattle.grain.specs.Lists.{◌and◌, every}
-use Rattle.grain.specs.Products.{is_product}
-use Rattle.grain.specs.Amounts.{expanded_of, is_fit_amount}
 use Rattle.grain.proofs.Every.{every_mapped}
-use Rattle.record.specs.Choices.{concat_map, is_some}
+use Rattle.std.specs.Prelude.{is_some}
+use Rattle.record.specs.Choices.{concat_map}
 use Rattle.record.specs.State.{Product, Group, group_table}
 use Rattle.record.specs.Edition.{is_edition, conditions_of}
-use Rattle.record.specs.Sound.{is_sound_sheet, is_sound_window, is_sound_product, is_expanded, is_sound_group, is_sound_date, every_product, is_sound}
+use Rattle.record.specs.Sound.{is_sound_product, is_expanded, is_sound_group, is_sound_date, every_product, is_sound}
 use Rattle.record.specs.History.{products_of}
 use Rattle.sheets.specs.Sheets.{sheet_in}
 use Rattle.book.specs.declared.Book.{Book}
-use Rattle.book.specs.Book.{limit_in, standing_in, today_in, last_in, level_of, opened_of, view_product, view_group, view_groups, view_common, view}
+use Rattle.book.specs.Book.{no_items, no_standing, standing_in, today_in, last_in, level_of, opened_of, view_product, view_group, view_groups, view_common, view, view_held}
 use Rattle.book.specs.Numbers.{all_products, all_groups}
-use Rattle.book.specs.Soundness.{is_mark_sound, are_items_sound, is_window_sound}
-use Rattle.book.proofs.Everies.{and_late, every_both, every_concat}
-use Rattle.book.proofs.Numbers.{every_same}
+use Rattle.book.specs.Soundness.{has_no_today, has_last, has_no_last, are_last_sound, is_mark_sound}
+use Rattle.book.proofs.Everies.{every_both, every_concat}
+use Rattle.book.proofs.Items.{every_place}
 use Rattle.book.proofs.Views.{shown_group, groups_are}
 
 products_are : (b : Book) → concat_map (λ (g : Group). g.products) (view_groups b 0 group_table) ≡ map (view_product b) all_products
@@ -31,31 +31,6 @@ flat b f =
     every_concat f (λ (g : Group). g.products) (view_groups b 0 group_table)
     ∙ ap (every f) (products_are b)
     ∙ every_mapped (λ p. f (view_product b p)) (view_product b) f (λ p. refl) all_products
-
--- the tests of one product: its items and its window
-product_tests : (b : Book) (p : ℕ) → is_product p ≡ true
-    → is_sound_product (view_product b p) ≡ are_items_sound p (limit_in b p) (today_in b p) (last_in b p) and is_window_sound b.windows p
-unfolding is_sound_product is_sound_window view_product
-product_tests b p l =
-    ap (λ (e : Bool). e and is_fit_amount p (limit_in b p).initial and eqb (limit_in b p).expanded (expanded_of p (limit_in b p).initial) and is_window_sound b.windows p and is_sound_sheet p (sheet_in (today_in b p)) and is_sound_sheet p (sheet_in (last_in b p))) l
-    ∙ and_late (is_fit_amount p (limit_in b p).initial) (eqb (limit_in b p).expanded (expanded_of p (limit_in b p).initial)) (is_window_sound b.windows p) (is_sound_sheet p (sheet_in (today_in b p))) (is_sound_sheet p (sheet_in (last_in b p)))
-
-all_are_products : every is_product all_products ≡ true
-unfolding every ◌and◌
-all_are_products = refl
-
-each_product : (b : Book)
-    → every (λ p. is_sound_product (view_product b p)) all_products
-    ≡ every (λ p. are_items_sound p (limit_in b p) (today_in b p) (last_in b p) and is_window_sound b.windows p) all_products
-each_product b = every_same is_product _ _ (product_tests b) all_products all_are_products
-
--- the tests of the products: of the items of each, then of the window of each
-pub products_tests : (b : Book)
-    → every (λ p. is_sound_product (view_product b p)) all_products
-    ≡ every (λ p. are_items_sound p (limit_in b p) (today_in b p) (last_in b p)) all_products and every (is_window_sound b.windows) all_products
-products_tests b =
-    each_product b
-    ∙ every_both (λ p. are_items_sound p (limit_in b p) (today_in b p) (last_in b p)) (is_window_sound b.windows) all_products
 
 -- a mark only on an expanded group, of a group as it is shown
 abbrev is_mark_shown_sound : Bool → Group → Bool
@@ -97,7 +72,7 @@ pub sound_is : (b : Book)
     and (b.is_open || every (λ p. not (is_some (sheet_in (today_in b p)))) all_products)
     and ((is_some (opened_of b.day) and every (λ p. is_some (sheet_in (last_in b p))) all_products)
     || every (λ p. not (is_some (sheet_in (last_in b p)))) all_products))
-unfolding is_sound view view_common view_product
+unfolding is_sound view view_common view_held
 sound_is b =
     ap₂ ◌and◌
     (ap₂ ◌and◌
@@ -107,14 +82,15 @@ sound_is b =
     (ap (is_some (opened_of b.day) and◌) (flat b (λ q. is_some q.last)))
     (flat b (λ q. not (is_some q.last))))
 
--- the same, the products' windows apart
-pub sound_tests : (b : Book)
+-- the same, with the tests of all places of an array as one
+pub sound_tests : (b : Book) → length b.products ≡ 8 → length b.standings ≡ 5
     → is_sound (view b)
     ≡ (is_edition b.edition
     and is_sound_date (opened_of b.day) b.is_open
-    and (every (λ g. is_mark_sound (has_marks b) (standing_in b g)) all_groups
-    and (every (λ p. are_items_sound p (limit_in b p) (today_in b p) (last_in b p)) all_products and every (is_window_sound b.windows) all_products))
-    and (b.is_open || every (λ p. not (is_some (sheet_in (today_in b p)))) all_products)
-    and ((is_some (opened_of b.day) and every (λ p. is_some (sheet_in (last_in b p))) all_products)
-    || every (λ p. not (is_some (sheet_in (last_in b p)))) all_products))
-sound_tests b = sound_is b ∙ rw (products_tests b)
+    and (list_all (is_mark_sound (has_marks b)) b.standings and every (λ p. is_sound_product (view_product b p)) all_products)
+    and (b.is_open || list_all has_no_today b.products)
+    and are_last_sound b.day b.products)
+sound_tests b eight five =
+    sound_is b
+    ∙ rw
+    (every_place (is_mark_sound (has_marks b)) 5 b.standings no_standing five, every_place has_no_today 8 b.products no_items eight, every_place has_last 8 b.products no_items eight, every_place has_no_last 8 b.products no_items eight)

@@ -2,7 +2,7 @@
 use Prim.Native.Nat.{ℕ, ◌<◌, ◌≤◌}
 use mathlib.Core.Path.{◌≡◌, refl, sym, ◌∙◌}
 use mathlib.Core.Bool.{Bool, true, false, not, ◌&&◌, cond}
-use mathlib.Core.Option.{Option, some, none}
+use Rattle.std.specs.Prelude.{Option, Some, None, unwrap_or}
 use native.Mathlib.Omega.{arith}
 use lib.Dec.{leb, eqb}
 use lib.ListN.{length}
@@ -12,17 +12,17 @@ use Rattle.grain.specs.Products.{product_count}
 use Rattle.grain.specs.Prices.{is_settlement}
 use Rattle.grain.proofs.Tests.{&&-left, &&-right, and_left, and_right}
 use Rattle.record.specs.declared.Day.{Day}
-use Rattle.record.specs.Choices.{or_else}
 use Rattle.record.specs.State.{no_day, day_of}
 use Rattle.record.specs.Opening.{is_true_day}
 use Rattle.record.specs.Sound.{is_sound_sheet, is_sound_window, is_sound_product, is_sound_date, is_sound}
-use Rattle.sheets.specs.declared.Sheet.{Sheet}
+use Rattle.sheets.specs.declared.sheet.Sheet.{Sheet}
 use Rattle.sheets.specs.Sheets.{contracts_of, sheet_in, months_of}
-use Rattle.windows.specs.declared.Windows.{Windows}
-use Rattle.windows.specs.Windows.{size_of, window_of}
+use Rattle.windows.specs.declared.Window.{Window}
+use Rattle.windows.specs.Windows.{shown}
+use Rattle.book.specs.Book.{size_of, window_of}
 use Rattle.windows.proofs.Shown.{too_long}
 use Rattle.book.specs.declared.Book.{Book}
-use Rattle.book.specs.Book.{today_in, last_in, is_no_day, opened_of, view_product, view_common, view}
+use Rattle.book.specs.Book.{window_in, today_in, last_in, is_no_day, opened_of, view_product, view_common, view, view_held}
 use Rattle.book.proofs.SheetsIn.{none-listed}
 use Rattle.book.proofs.Shown.{sound_is}
 use Rattle.book.proofs.Numbers.{each_passes}
@@ -45,31 +45,31 @@ sheet_ascending : (p : ℕ) (s : Sheet) → is_sound_sheet p (sheet_in s) ≡ tr
 unfolding is_sound_sheet sheet_in is_ascending
 sheet_ascending p s t = go (eqb s.len 0) refl t
   where
-    go : (b : Bool) → eqb s.len 0 ≡ b → is_sound_sheet p (cond b none (some (contracts_of s))) ≡ true
+    go : (b : Bool) → eqb s.len 0 ≡ b → is_sound_sheet p (cond b None (Some (contracts_of s))) ≡ true
         → is_ascending (months_of (contracts_of s)) ≡ true
     go true e t = rw (none-listed s (eqb-true _ _ e))
     go false e t = and_right _ _ (and_left _ _ (and_left _ _ t))
 
 -- a sound window
-window_fits : (w : Windows) (p : ℕ) → leb (length (window_of w p)) 45 ≡ true → size_of w p ≤ 45
-window_fits w p t = go (leb (size_of w p) 45) refl
+window_fits : (w : Window) → leb (length (shown w)) 45 ≡ true → w.size ≤ 45
+window_fits w t = go (leb w.size 45) refl
   where
-    go : (b : Bool) → leb (size_of w p) 45 ≡ b → size_of w p ≤ 45
+    go : (b : Bool) → leb w.size 45 ≡ b → w.size ≤ 45
     go true e = leb-true _ _ e
     go false e =
-        let long = too_long w p (leb-false _ _ e) in
-        let fits : length (window_of w p) ≤ 45 = leb-true _ _ t in
+        let long = too_long w (leb-false _ _ e) in
+        let fits : length (shown w) ≤ 45 = leb-true _ _ t in
         absurd (omega arith)
 
 -- of one product, test by test
 record Facts (b : Book) (p : ℕ) : Type 0 where
-  short : leb (length (window_of b.windows p)) 45 ≡ true
-  window : every (is_settlement p) (window_of b.windows p) ≡ true
+  short : leb (length (window_of b p)) 45 ≡ true
+  window : every (is_settlement p) (window_of b p) ≡ true
   today : is_sound_sheet p (sheet_in (today_in b p)) ≡ true
   last : is_sound_sheet p (sheet_in (last_in b p)) ≡ true
 
 facts : (b : Book) (p : ℕ) → is_sound_product (view_product b p) ≡ true → Facts b p
-unfolding is_sound_product is_sound_window view_product
+unfolding is_sound_product is_sound_window view_held
 facts b p t =
     let t₅ = and_left _ _ t in
     let w = and_right _ _ (and_left _ _ t₅) in
@@ -91,32 +91,32 @@ module _ (b : Book) (sound : is_sound (view b) ≡ true) where
     pub last_fits : (last_in b p).len ≤ 16
     last_fits = sheet_fits p (last_in b p) (facts b p product_sound).last
 
-    pub size_fits : size_of b.windows p ≤ 45
-    size_fits = window_fits b.windows p (facts b p product_sound).short
+    pub size_fits : size_of b p ≤ 45
+    size_fits = window_fits (window_in b p) (facts b p product_sound).short
 
-    pub window_settlements : every (is_settlement p) (window_of b.windows p) ≡ true
+    pub window_settlements : every (is_settlement p) (window_of b p) ≡ true
     window_settlements = (facts b p product_sound).window
 
     -- also where no sheet is in
     pub today_ascending : is_ascending (months_of (contracts_of (today_in b p))) ≡ true
     today_ascending = sheet_ascending p (today_in b p) (facts b p product_sound).today
 
-  pub open_day : b.is_open ≡ true → opened_of b.day ≡ some b.day
+  pub open_day : b.is_open ≡ true → opened_of b.day ≡ Some b.day
   unfolding is_sound_date
   open_day e = go (is_no_day b.day) date_sound
     where
-      go : (n : Bool) → is_sound_date (cond n none (some b.day)) b.is_open ≡ true
-          → cond n none (some b.day) ≡ some b.day
+      go : (n : Bool) → is_sound_date (cond n None (Some b.day)) b.is_open ≡ true
+          → cond n None (Some b.day) ≡ Some b.day
       go true t = let z : not b.is_open ≡ true = t in cc
       go false t = refl
 
-  pub true_day : (d : Day) → opened_of b.day ≡ some d → is_true_day b.day ≡ true
+  pub true_day : (d : Day) → opened_of b.day ≡ Some d → is_true_day b.day ≡ true
   unfolding is_sound_date
   true_day d e = go (is_no_day b.day) date_sound e
     where
-      go : (n : Bool) → is_sound_date (cond n none (some b.day)) b.is_open ≡ true
-          → cond n none (some b.day) ≡ some d → is_true_day b.day ≡ true
-      go true t e = let z : ◌≡◌ {A = Option Day} none (some d) = e in cc
+      go : (n : Bool) → is_sound_date (cond n None (Some b.day)) b.is_open ≡ true
+          → cond n None (Some b.day) ≡ Some d → is_true_day b.day ≡ true
+      go true t e = let z : ◌≡◌ {A = Option Day} None (Some d) = e in cc
       go false t e = t
 
 -- four zeros are no day
@@ -131,7 +131,7 @@ pub day_is : (b : Book) → day_of (view_common b) ≡ b.day
 unfolding view_common
 day_is b = go (is_no_day b.day) refl
   where
-    go : (n : Bool) → is_no_day b.day ≡ n → or_else (cond n none (some b.day)) no_day ≡ b.day
+    go : (n : Bool) → is_no_day b.day ≡ n → unwrap_or (cond n None (Some b.day)) no_day ≡ b.day
     go true e = zeros b.day.year b.day.month b.day.day b.day.left e
     go false e = refl
 

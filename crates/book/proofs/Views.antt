@@ -13,7 +13,7 @@ use Rattle.record.specs.Record.{Call, next, next_common, next_group}
 use Rattle.record.specs.History.{products_of}
 use Rattle.record.proofs.GroupTable.{group_small, own_group, small_products}
 use Rattle.book.specs.declared.Book.{Book}
-use Rattle.book.specs.Book.{view_product, view_group, view_groups, view_common, view}
+use Rattle.book.specs.Book.{view_product, view_group, view_groups, view_common, view, view_held}
 use Rattle.book.specs.Numbers.{all_groups}
 use Rattle.book.proofs.Numbers.{value_at, map_same, map_twice}
 
@@ -33,7 +33,7 @@ group_is b g l =
 
 -- a product in its own group
 found_shown : (b : Book) (p : ℕ) (ps : List ℕ) → is_in p ps ≡ true → find p (map (view_product b) ps) ≡ view_product b p
-unfolding view_product
+unfolding view_held
 found_shown b p [] t = absurd (false≢true t)
 found_shown b p (q ∷ ps) t = go (eqb p q) refl (found_shown b p ps)
   where

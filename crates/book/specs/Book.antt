@@ -1,12 +1,13 @@
 -- What a book means: the Record's contents that it holds. Places beyond a count are not read.
-use Rattle.std.specs.Prelude.{ℕ, suc, Bool, true, false, ◌&&◌, cond, List, [], ◌∷◌, map, eqb, get_or}
-use Rattle.std.proofs.Math.Option.{Option, some, none}
+use Rattle.std.specs.Prelude.{ℕ, suc, Bool, true, false, ◌&&◌, cond, List, [], ◌∷◌, map, eqb, get_or, Option, Some, None}
 use Rattle.record.specs.declared.Day.{Day}
 use Rattle.record.specs.State.{Level, initial, expanded, Product, Group, Common, Record, group_table}
-use Rattle.sheets.specs.declared.Sheet.{Sheet}
+use Rattle.grain.specs.declared.amounts.Limit.{Limit}
+use Rattle.sheets.specs.declared.sheet.Sheet.{Sheet}
 use Rattle.sheets.specs.Sheets.{sheet_in}
-use Rattle.windows.specs.Windows.{window_of}
-use Rattle.book.specs.declared.Limit.{Limit}
+use Rattle.windows.specs.declared.Window.{Window}
+use Rattle.windows.specs.Windows.{no_window, shown}
+use Rattle.book.specs.declared.product.Product.{Product as Held}
 use Rattle.book.specs.declared.Standing.{Standing}
 use Rattle.book.specs.declared.Book.{Book}
 
@@ -20,17 +21,33 @@ no_standing = record { expanded = false; marked = false }
 abbrev pub no_sheet : Sheet
 no_sheet = record { contracts = []; len = 0 }
 
+abbrev pub no_items : Held
+no_items = record { limit = no_limit; window = no_window; today = no_sheet; last = no_sheet }
+
+abbrev pub items_in : Book → ℕ → Held
+items_in b p = get_or b.products p no_items
+
 abbrev pub limit_in : Book → ℕ → Limit
-limit_in b p = get_or b.limits p no_limit
+limit_in b p = (items_in b p).limit
+
+abbrev pub window_in : Book → ℕ → Window
+window_in b p = (items_in b p).window
+
+abbrev pub size_of : Book → ℕ → ℕ
+size_of b p = (window_in b p).size
+
+-- the settlements of a product
+abbrev pub window_of : Book → ℕ → List ℕ
+window_of b p = shown (window_in b p)
+
+abbrev pub today_in : Book → ℕ → Sheet
+today_in b p = (items_in b p).today
+
+abbrev pub last_in : Book → ℕ → Sheet
+last_in b p = (items_in b p).last
 
 abbrev pub standing_in : Book → ℕ → Standing
 standing_in b g = get_or b.standings g no_standing
-
-abbrev pub today_in : Book → ℕ → Sheet
-today_in b p = get_or b.today p no_sheet
-
-abbrev pub last_in : Book → ℕ → Sheet
-last_in b p = get_or b.last p no_sheet
 
 abbrev pub level_of : Bool → Level
 level_of true = expanded
@@ -41,18 +58,22 @@ is_no_day d = eqb d.year 0 && eqb d.month 0 && eqb d.day 0 && eqb d.left 0
 
 -- no date is four zeros; a day of which only some are 0 is damage, and is shown
 abbrev pub opened_of : Day → Option Day
-opened_of d = cond (is_no_day d) none (some d)
+opened_of d = cond (is_no_day d) None (Some d)
 
-unfoldable pub view_product : Book → ℕ → Product
-view_product b p =
+-- product p of what a book holds of it
+unfoldable pub view_held : Held → ℕ → Product
+view_held h p =
     record {
       number = p;
-      initial_limit = (limit_in b p).initial;
-      expanded_limit = (limit_in b p).expanded;
-      window = window_of b.windows p;
-      today = sheet_in (today_in b p);
-      last = sheet_in (last_in b p);
+      initial_limit = h.limit.initial;
+      expanded_limit = h.limit.expanded;
+      window = shown h.window;
+      today = sheet_in h.today;
+      last = sheet_in h.last;
     }
+
+abbrev pub view_product : Book → ℕ → Product
+view_product b p = view_held (items_in b p) p
 
 unfoldable pub view_group : Book → ℕ → List ℕ → Group
 view_group b g ps =

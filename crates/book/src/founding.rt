@@ -2,69 +2,34 @@
 ghost use Rattle.std.specs.Prelude.{◌≡◌};
 ghost use Rattle.record.specs.Founding.{are_fit, founded};
 ghost use Rattle.book.specs.Book.{view};
-ghost use Rattle.book.specs.Founding.{no_book, refused_by, Founds};
+ghost use Rattle.book.specs.Founding.{no_book, Founds};
 
 use crate::editions::is_edition;
-use crate::{Book, Limit, Standing};
-use grain::PRODUCT_COUNT;
-use grain::refusals::UNFIT_AMOUNT;
-use record::refusals::UNKNOWN_EDITION;
-use record::{Contract, Day, GROUP_COUNT, MAX_CONTRACTS};
-use sheets::Sheet;
-use windows::Windows;
+use crate::{Book, Product, Standing};
+use grain::{Limit, PRODUCT_COUNT, Refusal};
+use record::{Day, GROUP_COUNT};
 
-#[derive(Clone, Copy)]
-pub struct Founding {
-    // 0, or the number of the refusal.
-    pub refusal: u32,
-    pub book: Book,
+fn are_fit(limits: &[u32; PRODUCT_COUNT]) -> bool
+    ensures { result ≡ are_fit limits.now }
+{
+    limits
+        .iter()
+        .enumerate()
+        .all(|(p, limit)| grain::is_fit_founding(p as u32, *limit))
 }
 
-fn are_fit(limits: [u32; PRODUCT_COUNT]) -> bool
-    ensures { result ≡ are_fit limits }
-{
-    for p in 0..PRODUCT_COUNT {
-        if !grain::is_fit_founding(p as u32, limits[p]) {
-            return false;
+impl Book {
+    // All zeros, which is unsound, as 0 is no edition: every call on it is refused.
+    pub fn none() -> Book
+        ensures { result ≡ no_book }
+    {
+        Book {
+            edition: 0,
+            standings: [Standing::default(); GROUP_COUNT],
+            products: [Product::none(); PRODUCT_COUNT],
+            day: Day::default(),
+            is_open: false,
         }
-    }
-    true
-}
-
-// The same fixed book always: all zeros, which is unsound, as 0 is no edition.
-fn no_book() -> Book
-    ensures { result ≡ no_book }
-{
-    let empty = Sheet {
-        contracts: [Contract {
-            month: 0,
-            settlement: 0,
-        }; MAX_CONTRACTS],
-        len: 0,
-    };
-    Book {
-        edition: 0,
-        limits: [Limit {
-            initial: 0,
-            expanded: 0,
-        }; PRODUCT_COUNT],
-        standings: [Standing {
-            expanded: false,
-            marked: false,
-        }; GROUP_COUNT],
-        windows: Windows {
-            settlements: [0; 360],
-            sizes: [0; PRODUCT_COUNT],
-        },
-        today: [empty; PRODUCT_COUNT],
-        last: [empty; PRODUCT_COUNT],
-        day: Day {
-            year: 0,
-            month: 0,
-            day: 0,
-            left: 0,
-        },
-        is_open: false,
     }
 }
 
@@ -72,38 +37,32 @@ fn no_book() -> Book
 fn fresh(edition: u32, limits: [u32; PRODUCT_COUNT]) -> Book
     ensures { view result ≡ founded (record { edition = edition; limits = limits }) }
 {
-    let mut b = no_book();
-    b.edition = edition;
-    for p in 0..PRODUCT_COUNT {
-        let initial = limits[p];
-        b.limits[p] = Limit {
-            initial,
-            expanded: grain::expanded(p as u32, initial),
+    let empty = Product::none();
+    let mut products = [empty; PRODUCT_COUNT];
+    for (p, initial) in limits.iter().enumerate() {
+        let limit = Limit {
+            initial: *initial,
+            expanded: grain::expanded(p as u32, *initial),
         };
+        products[p] = Product { limit, ..empty };
     }
-    b
-}
-
-fn refused(refusal: u32) -> Founding
-    ensures { result ≡ refused_by refusal }
-{
-    Founding {
-        refusal,
-        book: no_book(),
+    Book {
+        edition,
+        standings: [Standing::default(); GROUP_COUNT],
+        products,
+        day: Day::default(),
+        is_open: false,
     }
 }
 
-pub fn found(edition: u32, limits: [u32; PRODUCT_COUNT]) -> Founding
+pub fn found(edition: u32, limits: [u32; PRODUCT_COUNT]) -> Result<Book, Refusal>
     ensures { Founds (record { edition = edition; limits = limits }) result }
 {
     if !is_edition(edition) {
-        return refused(UNKNOWN_EDITION);
+        return Err(Refusal::UnknownEdition);
     }
-    if !are_fit(limits) {
-        return refused(UNFIT_AMOUNT);
+    if !are_fit(&limits) {
+        return Err(Refusal::UnfitAmount);
     }
-    Founding {
-        refusal: 0,
-        book: fresh(edition, limits),
-    }
+    Ok(fresh(edition, limits))
 }

@@ -23,10 +23,7 @@ pub fn products_before(g: usize) -> usize
 pub fn group_of(p: usize) -> usize
     ensures { result ≡ group_of p }
 {
-    for g in 0..GROUP_COUNT {
-        if p < products_before(g + 1) {
-            return g;
-        }
-    }
-    GROUP_COUNT
+    (0..GROUP_COUNT)
+        .find(|g| p < products_before(*g + 1))
+        .unwrap_or(GROUP_COUNT)
 }

@@ -9,17 +9,14 @@ use grain::PRODUCT_COUNT;
 
 impl Book {
     // I or E, by the level of the product's group; 0 where there is no such product.
-    pub fn limit_of(self, p: usize) -> u32
-        ensures { result ≡ todays_limit (group_at (view self) (group_of p)) p }
+    pub fn limit_of(&self, p: usize) -> u32
+        ensures { result ≡ todays_limit (group_at (view self.now) (group_of p)) p }
     {
         if PRODUCT_COUNT <= p {
             return 0;
         }
-        let limits = self.limits;
-        let standings = self.standings;
-        let limit = limits[p];
-        let standing = standings[group_of(p)];
-        if standing.expanded {
+        let limit = self.products[p].limit;
+        if self.standings[group_of(p)].expanded {
             return limit.expanded;
         }
         limit.initial

@@ -1,48 +1,28 @@
 // Whether a book is sound: every field in its range, and the parts in agreement.
-ghost use Rattle.std.specs.Prelude.{◌≡◌, ◌||◌, eqb, get_or};
-ghost use Rattle.grain.specs.Lists.{◌and◌, every};
-ghost use Rattle.grain.specs.Amounts.{expanded_of, is_fit_amount};
+ghost use Rattle.std.specs.Prelude.{◌≡◌, ◌||◌, get_or};
+ghost use Rattle.std.specs.List.{list_all};
+ghost use Rattle.grain.specs.Lists.{every};
 ghost use Rattle.record.specs.Opening.{is_true_day};
-ghost use Rattle.record.specs.Sound.{is_sound_date, is_sound};
-ghost use Rattle.book.specs.Book.{no_standing, limit_in, today_in, last_in, is_no_day, opened_of, view};
-ghost use Rattle.book.specs.Numbers.{all_products, all_groups};
-ghost use Rattle.book.specs.Soundness.{are_all_in, are_all_missing, are_last_sound, is_mark_sound, are_items_sound, is_window_sound};
+ghost use Rattle.record.specs.Sound.{is_sound_date, is_sound_product, is_sound};
+ghost use Rattle.book.specs.Book.{no_items, is_no_day, opened_of, view_held, view};
+ghost use Rattle.book.specs.Numbers.{all_products};
+ghost use Rattle.book.specs.Soundness.{is_mark_sound, has_today, has_last, has_no_today, has_no_last, are_all_in, are_last_sound};
 
 use crate::editions::{has_marks, is_edition};
-use crate::{Book, Limit, Standing};
-use grain::{DateFacts, PRODUCT_COUNT, WINDOW_LENGTH};
-use record::{Day, GROUP_COUNT};
-use sheets::Sheet;
-use windows::Windows;
+use crate::{Book, Product, Standing};
+use record::Day;
 
 pub fn is_no_day(d: Day) -> bool
     ensures { result ≡ is_no_day d }
 {
-    if d.year != 0 {
-        return false;
-    }
-    if d.month != 0 {
-        return false;
-    }
-    if d.day != 0 {
-        return false;
-    }
-    d.left == 0
+    d == Day::default()
 }
 
 // A date, with left at most the days remaining in its month.
 pub fn is_true_day(d: Day) -> bool
     ensures { result ≡ is_true_day d }
 {
-    let DateFacts::On {
-        month: _,
-        season: _,
-        remaining,
-    } = grain::date_facts(d.year, d.month, d.day)
-    else {
-        return false;
-    };
-    d.left <= remaining
+    grain::date_facts(d.year, d.month, d.day).is_ok_and(|facts| d.left <= facts.remaining)
 }
 
 // A date where a day is open.
@@ -55,109 +35,31 @@ fn is_sound_date(d: Day, is_open: bool) -> bool
     is_true_day(d)
 }
 
-fn is_sound_limit(product: u32, limit: Limit) -> bool
-    ensures { result ≡ (is_fit_amount product limit.initial and eqb limit.expanded (expanded_of product limit.initial)) }
-{
-    if !grain::is_fit_amount(product, limit.initial) {
-        return false;
-    }
-    limit.expanded == grain::expanded(product, limit.initial)
-}
-
-// The limits and the two sheets of a product.
-fn is_sound_product(product: u32, limit: Limit, today: Sheet, last: Sheet) -> bool
-    ensures { result ≡ are_items_sound product limit today last }
-{
-    if !is_sound_limit(product, limit) {
-        return false;
-    }
-    if !today.is_sound(product) {
-        return false;
-    }
-    last.is_sound(product)
-}
-
-fn are_products_sound(b: Book) -> bool
-    ensures { result ≡ every (λ p. are_items_sound p (limit_in b p) (today_in b p) (last_in b p)) all_products }
-{
-    let limits = b.limits;
-    let todays = b.today;
-    let lasts = b.last;
-    for p in 0..PRODUCT_COUNT {
-        let limit = limits[p];
-        let today = todays[p];
-        let last = lasts[p];
-        if !is_sound_product(p as u32, limit, today, last) {
-            return false;
-        }
-    }
-    true
-}
-
-fn are_windows_sound(w: Windows) -> bool
-    ensures { result ≡ every (is_window_sound w) all_products }
-{
-    let all = w.settlements;
-    let sizes = w.sizes;
-    for p in 0..PRODUCT_COUNT {
-        let n = sizes[p];
-        if WINDOW_LENGTH < n {
-            return false;
-        }
-        let tick = grain::tick(p as u32, 0);
-        let at = WINDOW_LENGTH * p;
-        let past = at + n;
-        if !windows::are_on_tick(tick, &all[at..past]) {
-            return false;
-        }
-    }
-    true
-}
-
 // A mark only on an expanded group, and none in an edition without marks.
-fn is_mark_sound(has_marks: bool, s: Standing) -> bool
-    ensures { result ≡ is_mark_sound has_marks s }
+fn is_mark_sound(has_marks: bool, standing: Standing) -> bool
+    ensures { result ≡ is_mark_sound has_marks standing }
 {
-    if !s.marked {
+    if !standing.marked {
         return true;
     }
-    if !s.expanded {
+    if !standing.expanded {
         return false;
     }
     has_marks
 }
 
-fn are_marks_sound(has_marks: bool, standings: [Standing; GROUP_COUNT]) -> bool
-    ensures { result ≡ every (λ g. is_mark_sound has_marks (get_or standings g no_standing)) all_groups }
+fn are_marks_sound(has_marks: bool, standings: &[Standing]) -> bool
+    ensures { result ≡ list_all (is_mark_sound has_marks) standings.now }
 {
-    for g in 0..GROUP_COUNT {
-        let s = standings[g];
-        if !is_mark_sound(has_marks, s) {
-            return false;
-        }
-    }
-    true
+    standings.iter().all(|s| is_mark_sound(has_marks, *s))
 }
 
-fn are_all_missing(sheets: [Sheet; PRODUCT_COUNT]) -> bool
-    ensures { result ≡ are_all_missing sheets }
+fn are_products_sound(b: &Book) -> bool
+    ensures { result ≡ every (λ p. is_sound_product (view_held (get_or b.now.products p no_items) p)) all_products }
 {
-    for p in 0..PRODUCT_COUNT {
-        let s = sheets[p];
-        if s.len != 0 {
-            return false;
-        }
-    }
-    true
-}
-
-// The eight sheets are there.
-pub fn are_all_in(sheets: [Sheet; PRODUCT_COUNT]) -> bool
-    ensures { result ≡ are_all_in sheets }
-{
-    for p in 0..PRODUCT_COUNT {
-        let s = sheets[p];
-        if s.len == 0 {
+    // No chain: with `all` a check takes 3% more instructions.
+    for (p, product) in b.products.iter().enumerate() {
+        if !product.is_sound(p as u32) {
             return false;
         }
     }
@@ -165,55 +67,54 @@ pub fn are_all_in(sheets: [Sheet; PRODUCT_COUNT]) -> bool
 }
 
 // No sheet in while no day is open.
-fn is_phase_sound(is_open: bool, todays: [Sheet; PRODUCT_COUNT]) -> bool
-    ensures { result ≡ (is_open || are_all_missing todays) }
+fn is_phase_sound(is_open: bool, products: &[Product]) -> bool
+    ensures { result ≡ (is_open || list_all has_no_today products.now) }
 {
     if is_open {
         return true;
     }
-    are_all_missing(todays)
+    products.iter().all(|q| q.today.is_none())
 }
 
 // The last ended sheets are all there, with a date, or none is.
-fn are_last_sound(d: Day, lasts: [Sheet; PRODUCT_COUNT]) -> bool
-    ensures { result ≡ are_last_sound d lasts }
+fn are_last_sound(d: Day, products: &[Product]) -> bool
+    ensures { result ≡ are_last_sound d products.now }
 {
-    if are_all_missing(lasts) {
+    if products.iter().all(|q| q.last.is_none()) {
         return true;
     }
     if is_no_day(d) {
         return false;
     }
-    are_all_in(lasts)
+    products.iter().all(|q| !q.last.is_none())
 }
 
 impl Book {
-    pub fn is_sound(self) -> bool
-        ensures { result ≡ is_sound (view self) }
+    // The eight sheets of the open day are there.
+    pub fn are_all_in(&self) -> bool
+        ensures { result ≡ are_all_in self.now }
+    {
+        self.products.iter().all(|q| !q.today.is_none())
+    }
+
+    pub fn is_sound(&self) -> bool
+        ensures { result ≡ is_sound (view self.now) }
     {
         if !is_edition(self.edition) {
             return false;
         }
-        let day = self.day;
-        if !is_sound_date(day, self.is_open) {
+        if !is_sound_date(self.day, self.is_open) {
             return false;
         }
-        let standings = self.standings;
-        if !are_marks_sound(has_marks(self.edition), standings) {
+        if !are_marks_sound(has_marks(self.edition), &self.standings) {
             return false;
         }
         if !are_products_sound(self) {
             return false;
         }
-        let w = self.windows;
-        if !are_windows_sound(w) {
+        if !is_phase_sound(self.is_open, &self.products) {
             return false;
         }
-        let todays = self.today;
-        if !is_phase_sound(self.is_open, todays) {
-            return false;
-        }
-        let lasts = self.last;
-        are_last_sound(day, lasts)
+        are_last_sound(self.day, &self.products)
     }
 }

@@ -6,16 +6,16 @@ use Rattle.book.proofs.TodaysLimit.{no_limit_lem, limit_is}
 use Rattle.book.proofs.Book.limit_of.Goals as goal
 
 pub returns-then-p-ge-PRODUCT_COUNT : goal.returns-then-p-ge-PRODUCT_COUNT
-returns-then-p-ge-PRODUCT_COUNT c = sym (no_limit_lem c.args.self c.args.p c.if-p-ge-PRODUCT_COUNT.true)
+returns-then-p-ge-PRODUCT_COUNT c = sym (no_limit_lem c.args.self.now c.args.p c.if-p-ge-PRODUCT_COUNT.true)
 
-pub offset_bounds-standings-group_of : goal.offset_bounds-standings-group_of
-offset_bounds-standings-group_of c = let small = rw (← c.group_of.ensures) at (group_small c.args.p (search rules)) in omega arith
+pub offset_bounds-self-group_of : goal.offset_bounds-self-group_of
+offset_bounds-self-group_of c = let small = rw (← c.group_of.ensures) at (group_small c.args.p (search rules)) in omega arith
 
-pub bounds-standings-group_of : goal.bounds-standings-group_of
-bounds-standings-group_of c = let small = rw (← c.group_of.ensures) at (group_small c.args.p (search rules)) in omega arith
+pub bounds-self-group_of : goal.bounds-self-group_of
+bounds-self-group_of c = let small = rw (← c.group_of.ensures) at (group_small c.args.p (search rules)) in omega arith
 
-pub returns-then-standing : goal.returns-then-standing
-returns-then-standing c = sym (limit_is c.args.self c.args.p (search rules) ∙ rw (← c.group_of.ensures, c.if-standing.true))
+pub returns-then-self-group_of : goal.returns-then-self-group_of
+returns-then-self-group_of c = sym (limit_is c.args.self.now c.args.p (search rules) ∙ rw (← c.group_of.ensures, c.if-self-group_of.true))
 
 pub returns : goal.returns
-returns c = sym (limit_is c.args.self c.args.p (search rules) ∙ rw (← c.group_of.ensures, c.if-standing.false))
+returns c = sym (limit_is c.args.self.now c.args.p (search rules) ∙ rw (← c.group_of.ensures, c.if-self-group_of.false))

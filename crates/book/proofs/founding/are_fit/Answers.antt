@@ -1,27 +1,19 @@
-use borrow.Author.Rules.{rules}
-use lib.ListN.{get_or}
+use Rattle.std.proofs.Common.{rules, sym, ◌∙◌, ℕ, Bool}
+use borrow.Author.Tests.{tests}
+use Rattle.std.proofs.lemmas.Iterator.{YieldsList-from_slice}
+use Rattle.std.proofs.lemmas.Iterator.Consumers.{YieldsList-from_enumerate}
+use Rattle.std.proofs.lemmas.Iterator.Search.{all_from_yields_List}
 use Rattle.grain.specs.Amounts.{is_fit_founding}
-use Prim.Native.Nat.{ℕ}
-use mathlib.Core.Path.{◌≡◌, sym, ◌∙◌}
-use mathlib.Core.Bool.{Bool, true, false}
-use Rattle.grain.specs.Products.{product_count}
 use Rattle.book.proofs.Founded.{fit_is}
-use Rattle.book.proofs.Numbers.{one_fails, one_goes_on, none_left}
+use Rattle.book.proofs.Items.{every_counted}
 use Rattle.book.proofs.founding.are_fit.Goals as goal
 
-pub returns-then-not-is_fit_founding : goal.returns-then-not-is_fit_founding
-returns-then-not-is_fit_founding c =
-    let test : ℕ → Bool = λ p. is_fit_founding p (get_or c.args.limits p 0) in
-    let no : test c.loop-p.p ≡ false = sym c.is_fit_founding.ensures ∙ c.if-not-is_fit_founding.true in
-    sym (fit_is c.args.limits (search rules) ∙ one_fails test product_count c.loop-p.p (search rules) no c.loop-p.invariant.1)
-
-pub loop-p-preserved : goal.loop-p-preserved
-loop-p-preserved c =
-    let test : ℕ → Bool = λ p. is_fit_founding p (get_or c.args.limits p 0) in
-    let yes : test c.loop-p.p ≡ true = sym c.is_fit_founding.ensures ∙ c.if-not-is_fit_founding.false in
-    (search rules, one_goes_on test product_count c.loop-p.p (search rules) yes c.loop-p.invariant.1)
+abbrev test : ℕ × ℕ → Bool
+test q = is_fit_founding q.0 q.1
 
 pub returns : goal.returns
 returns c =
-    let test : ℕ → Bool = λ p. is_fit_founding p (get_or c.args.limits p 0) in
-    sym (fit_is c.args.limits (search rules) ∙ none_left test product_count c.loop-p.p (search rules) c.loop-p.invariant.1)
+    let limits = c.args.limits.now in
+    all_from_yields_List test _ _ _ c.all.ensures.ran (YieldsList-from_enumerate (YieldsList-from_slice limits cc) cc) (λ x b q k. search (rules, tests))
+    ∙ every_counted test 8 limits 0 (search rules)
+    ∙ sym (fit_is limits (search rules))

@@ -1,18 +1,19 @@
-use borrow.Author.Rules.{rules}
-use mathlib.Core.Path.{sym}
-use Rattle.book.proofs.ProductsBefore.{none_before, between, past_all}
+use Rattle.std.proofs.Common.{rules, ◌≡◌, refl, ◌∙◌, ℕ, ◌+◌, Option, None, Some}
+use borrow.Author.Tests.{tests}
+use lib.Dec.{ltb}
+use Rattle.std.specs.Option.{option_map}
+use Rattle.std.proofs.lemmas.Iterator.{YieldsList-from_range}
+use Rattle.std.proofs.lemmas.Iterator.Search.{find_from_yields_List}
+use Rattle.book.specs.Numbers.{products_before}
+use Rattle.book.proofs.ProductsBefore.{found_group}
 use Rattle.book.proofs.groups.group_of.Goals as goal
 
-pub loop-g-init : goal.loop-g-init
-loop-g-init c = (search rules, none_before _)
-
-pub returns-then-p-products_before : goal.returns-then-p-products_before
-returns-then-p-products_before c =
-    let to = rw c.products_before.ensures at c.if-p-products_before.true in
-    sym (between c.loop-g.g c.args.p c.loop-g.invariant.1 to)
-
-pub loop-g-preserved : goal.loop-g-preserved
-loop-g-preserved c = (search rules, rw c.products_before.ensures at c.if-p-products_before.false)
+same : (r o : Option ℕ) → option_map (λ (x : ℕ). x) r ≡ o → r ≡ o
+same None o e = e
+same (Some x) o e = e
 
 pub returns : goal.returns
-returns c = sym (past_all c.loop-g.g c.args.p (search rules) c.loop-g.invariant.1)
+returns c =
+    let p = c.args.p in
+    let found = find_from_yields_List (λ g. ltb p (products_before (g + 1))) _ _ _ c.find.ensures.ran (YieldsList-from_range 0 5 5 refl refl) (λ x b q k. search (rules, tests)) in
+    c.unwrap_or.ensures ∙ rw (same _ _ found) (found_group p)

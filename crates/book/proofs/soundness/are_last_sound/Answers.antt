@@ -1,33 +1,26 @@
-use mathlib.Core.Path.{sym, ◌∙◌}
-use mathlib.Core.Bool.{Bool}
-use mathlib.Core.List.{List}
-use lib.ListN.{get_or}
-use Rattle.grain.specs.Lists.{◌and◌, every}
-use Rattle.record.specs.Choices.{is_some}
-use Rattle.record.specs.declared.Day.{Day}
-use Rattle.sheets.specs.declared.Sheet.{Sheet}
-use Rattle.sheets.specs.Sheets.{sheet_in}
-use Rattle.book.specs.Book.{no_sheet, opened_of}
-use Rattle.book.specs.Numbers.{all_products}
+use Rattle.std.proofs.Common.{◌≡◌, rules, sym, ◌∙◌}
+use borrow.Author.Tests.{tests}
+use Rattle.std.specs.List.{list_all}
+use Rattle.std.proofs.lemmas.Iterator.{YieldsList-from_slice}
+use Rattle.std.proofs.lemmas.Iterator.Search.{all_from_yields_List}
+use Rattle.grain.specs.Lists.{◌and◌}
+use Rattle.book.specs.Soundness.{has_last, has_no_last}
 use Rattle.book.proofs.Either.{second_holds, second_fails}
 use Rattle.book.proofs.soundness.are_last_sound.Goals as goal
+use Rattle.book.proofs.soundness.are_last_sound.Goals.{After-all}
 
--- the last ended sheets are all there, with a date
+missing : (c : After-all) → c.all.result ≡ list_all has_no_last c.args.products.now
+missing c = all_from_yields_List has_no_last _ _ _ c.all.ensures.ran (YieldsList-from_slice c.args.products.now cc) (λ x b q k. search (rules, tests))
 
-abbrev are_there : Day → List Sheet → Bool
-are_there d last = is_some (opened_of d) and every (λ p. is_some (sheet_in (get_or last p no_sheet))) all_products
-
-pub returns-then-are_all_missing : goal.returns-then-are_all_missing
-returns-then-are_all_missing c =
-    let a = c.args in
-    sym (second_holds (are_there a.d a.lasts) _ (sym c.are_all_missing.ensures ∙ c.if-are_all_missing.true))
+pub returns-then-all : goal.returns-then-all
+returns-then-all c = sym (second_holds _ _ (sym (missing (goal.at.returns-then-all c).After-all) ∙ c.if-all.true))
 
 pub returns-then-is_no_day : goal.returns-then-is_no_day
 unfolding ◌and◌
-returns-then-is_no_day c = rw (sym c.is_no_day.ensures ∙ c.if-is_no_day.true, sym c.are_all_missing.ensures ∙ c.if-are_all_missing.false)
+returns-then-is_no_day c = rw (sym c.is_no_day.ensures ∙ c.if-is_no_day.true, sym (missing (goal.at.returns-then-is_no_day c).After-all) ∙ c.if-all.false)
 
 pub returns : goal.returns
 unfolding ◌and◌
 returns c =
     rw (sym c.is_no_day.ensures ∙ c.if-is_no_day.false)
-    (c.are_all_in.ensures ∙ sym (second_fails _ _ (sym c.are_all_missing.ensures ∙ c.if-are_all_missing.false)))
+    (all_from_yields_List has_last _ _ _ c.all-2.ensures.ran (YieldsList-from_slice c.args.products.now cc) (λ x b q k. search (rules, tests)) ∙ sym (second_fails _ _ (sym (missing (goal.at.returns c).After-all) ∙ c.if-all.false)))

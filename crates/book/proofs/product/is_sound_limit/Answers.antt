@@ -1,6 +1,6 @@
 use mathlib.Core.Path.{sym, ◌∙◌}
 use Rattle.grain.specs.Lists.{◌and◌}
-use Rattle.book.proofs.soundness.is_sound_limit.Goals as goal
+use Rattle.book.proofs.product.is_sound_limit.Goals as goal
 
 pub returns-then-not-is_fit_amount : goal.returns-then-not-is_fit_amount
 unfolding ◌and◌
