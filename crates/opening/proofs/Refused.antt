@@ -2,7 +2,7 @@
 use mathlib.Core.Path.{◌≡◌}
 use mathlib.Core.Bool.{true, not}
 use mathlib.Core.List.{[], ◌∷◌}
-use mathlib.Core.Option.{none}
+use Rattle.std.specs.Prelude.{None}
 use borrow.Author.Tests.{not-false}
 use Rattle.grain.specs.Refusals.{no_such_date}
 use Rattle.record.specs.declared.Day.{Day}
@@ -26,7 +26,7 @@ pub sound_opening : (b : Book) (d : Day) → is_sound (view b) ≡ true
 unfolding tests opening_tests view view_common
 sound_opening b d sound = sound_refusal (view b) (opening d) sound
 
-pub accepted_opening : (b : Book) (d : Day) → refusal (view b) (opening d) ≡ none
+pub accepted_opening : (b : Book) (d : Day) → refusal (view b) (opening d) ≡ None
     → (is_sound (view b) ≡ true) × (is_true_day d ≡ true)
 unfolding tests opening_tests view view_common
 accepted_opening b d e =

@@ -3,43 +3,42 @@ use Prim.Native.Nat.{ℕ, ◌<◌}
 use mathlib.Core.Path.{◌≡◌, refl, sym, ◌∙◌, ap}
 use mathlib.Core.Bool.{Bool, true, false, cond}
 use mathlib.Core.List.{[], map}
-use Rattle.grain.specs.Lists.{any}
+use Rattle.std.specs.List.{list_any}
 use Rattle.grain.specs.Products.{product_count}
 use Rattle.grain.proofs.Every.{any_mapped}
 use Rattle.record.specs.declared.Day.{Day}
-use Rattle.record.specs.State.{group_count, initial, group_table}
+use Rattle.record.specs.State.{Common, group_count, initial, group_table}
 use Rattle.record.specs.Opening.{is_true_day, is_next_season, is_other_season, is_renewed, open_product, has_new_limits, open_group}
 use Rattle.record.specs.Record.{opening, opened, answer, next, next_common, next_group}
 use Rattle.record.specs.History.{products_of}
-use Rattle.windows.specs.Windows.{window_of}
+use Rattle.windows.specs.declared.Window.{Window}
+use Rattle.windows.specs.Windows.{kept_of, shown, empty_window}
+use Rattle.book.specs.declared.product.Product.{Product as Held}
 use Rattle.book.specs.declared.Book.{Book}
 use Rattle.book.specs.declared.Standing.{Standing}
-use Rattle.book.specs.Book.{limit_in, standing_in, level_of, opened_of, view_product, view_group, view_common, view}
+use Rattle.book.specs.Book.{window_of, items_in, standing_in, level_of, opened_of, view_product, view_group, view_common, view, view_held}
 use Rattle.book.specs.Numbers.{all_products}
 use Rattle.book.proofs.Views.{group_view, next-view}
-use Rattle.opening.specs.Opens.{is_renewed_by, limit_on, standing_on}
+use Rattle.opening.specs.Opens.{is_renewed_by, items_on, standing_on}
 use Rattle.opening.proofs.TrueDays.{opened_is}
 
 -- the product gets its season limits
 abbrev pub renewed_on : Book → Day → ℕ → Bool
-renewed_on b d p = is_renewed_by (is_next_season (opened_of b.day) d) (window_of b.windows p)
+renewed_on b d p = is_renewed_by (is_next_season (opened_of b.day) d) (window_of b p)
 
 -- the parts of the book after it
 pub record OpenedOn (b : Book) (d : Day) (z : Book) : Type 0 where
-  pub limits : (p : ℕ) → p < product_count
-      → limit_in z p ≡ limit_on (is_next_season (opened_of b.day) d) (window_of b.windows p) p (limit_in b p)
-  pub windows : (p : ℕ) → window_of z.windows p ≡ cond (is_other_season (opened_of b.day) d) [] (window_of b.windows p)
-  pub standings : (g : ℕ) → g < group_count → standing_in z g ≡ standing_on (any (renewed_on b d) (products_of g)) (standing_in b g)
-  pub today : z.today ≡ b.today
-  pub last : z.last ≡ b.last
+  pub items : (p : ℕ) → p < product_count
+      → items_in z p ≡ items_on (is_next_season (opened_of b.day) d) (is_other_season (opened_of b.day) d) p (items_in b p)
+  pub standings : (g : ℕ) → g < group_count → standing_in z g ≡ standing_on (list_any (renewed_on b d) (products_of g)) (standing_in b g)
   pub edition : z.edition ≡ b.edition
   pub day : z.day ≡ d
   pub is_open : z.is_open ≡ true
 
 -- the group gets new limits
 pub new_limits : (b : Book) (d : Day) (g : ℕ)
-    → has_new_limits (view_common b) d (view_group b g (products_of g)) ≡ any (renewed_on b d) (products_of g)
-unfolding has_new_limits is_renewed view_group view_product view_common
+    → has_new_limits (view_common b) d (view_group b g (products_of g)) ≡ list_any (renewed_on b d) (products_of g)
+unfolding has_new_limits is_renewed view_group view_held view_common
 new_limits b d g = any_mapped (renewed_on b d) (view_product b) (is_renewed (view_common b) d) (λ p. refl) (products_of g)
 
 -- the level and the mark that a standing shows
@@ -51,14 +50,27 @@ mark_on : (x : Bool) (s : Standing) → (standing_on x s).marked ≡ cond x fals
 mark_on true s = refl
 mark_on false s = refl
 
+-- the items that an opening leaves show what the Record's does
+shown_if : (x : Bool) (w : Window) → shown (cond x empty_window w) ≡ cond x [] (shown w)
+unfolding shown kept_of
+shown_if true w = refl
+shown_if false w = refl
+
+items_opened : (c : Common) (d : Day) (p : ℕ) (h : Held)
+    → view_held (items_on (is_next_season c.opened d) (is_other_season c.opened d) p h) p ≡ open_product c d (view_held h p)
+unfolding view_held open_product is_renewed
+items_opened c d p h = go (is_renewed_by (is_next_season c.opened d) (shown h.window)) refl
+  where
+    go : (x : Bool) → is_renewed_by (is_next_season c.opened d) (shown h.window) ≡ x
+        → view_held (items_on (is_next_season c.opened d) (is_other_season c.opened d) p h) p ≡ open_product c d (view_held h p)
+    go true e = rw (shown_if (is_other_season c.opened d) h.window, e)
+    go false e = rw (shown_if (is_other_season c.opened d) h.window, e)
+
 module _ (b : Book) (d : Day) (z : Book) (on : OpenedOn b d z) where
   product_opened : (p : ℕ) → p < product_count → view_product z p ≡ open_product (view_common b) d (view_product b p)
-  unfolding view_product view_common open_product is_renewed
-  product_opened p l = go (renewed_on b d p) refl
-    where
-      go : (x : Bool) → renewed_on b d p ≡ x → view_product z p ≡ open_product (view_common b) d (view_product b p)
-      go true e = rw (on.limits p l, on.windows p, on.today, on.last, e)
-      go false e = rw (on.limits p l, on.windows p, on.today, on.last, e)
+  unfolding view_common
+  product_opened p l =
+      ap (λ (h : Held). view_held h p) (on.items p l) ∙ items_opened (view_common b) d p (items_in b p)
 
   group_opened : (g : ℕ) → g < group_count
       → view_group z g (products_of g) ≡ next_group (view_common b) (opening d) (view_group b g (products_of g))
@@ -77,5 +89,5 @@ module _ (b : Book) (d : Day) (z : Book) (on : OpenedOn b d z) where
 
 -- the answers, product by product
 pub renewed-answer : (b : Book) (d : Day) → opened (map (renewed_on b d) all_products) ≡ answer (view b) (opening d)
-unfolding answer view view_common view_group view_product group_table is_renewed
+unfolding answer view view_common view_group view_held group_table is_renewed
 renewed-answer b d = refl

@@ -1,8 +1,8 @@
 -- What a true day says of its season, and that a sound book has one or none.
 use Prim.Native.Nat.{◌≤◌, ◌+◌, ◌-◌, ◌*◌}
-use mathlib.Core.Path.{◌≡◌}
-use mathlib.Core.Bool.{true, false}
-use mathlib.Core.Option.{some}
+use mathlib.Core.Path.{◌≡◌, refl}
+use mathlib.Core.Bool.{Bool, true, false, cond}
+use Rattle.std.specs.Prelude.{Some, None}
 use native.Mathlib.Nat.{div-le_self}
 use native.Mathlib.Omega.{arith}
 use borrow.Author.Tests.{ne_eqb}
@@ -32,10 +32,12 @@ is_a_day d t =
     let other : d.year ≡ 0 → ⊥ = omega arith in
     rw (ne_eqb d.year 0 other)
 
-pub opened_is : (d : Day) → is_true_day d ≡ true → opened_of d ≡ some d
+pub opened_is : (d : Day) → is_true_day d ≡ true → opened_of d ≡ Some d
 opened_is d t = rw (is_a_day d t)
 
-pub none_or_true : (b : Book) → is_sound (view b) ≡ true → NoneOrTrue b.day
-none_or_true b sound e =
-    let is : opened_of b.day ≡ some b.day = rw e in
-    true_day b sound b.day is
+pub none_or_true : (b : Book) → is_sound (view b) ≡ true → NoneOrTrue (opened_of b.day)
+none_or_true b sound = go (is_no_day b.day) refl
+  where
+    go : (n : Bool) → is_no_day b.day ≡ n → NoneOrTrue (cond n None (Some b.day))
+    go true e = tt
+    go false e = true_day b sound b.day (rw e)

@@ -1,48 +1,71 @@
--- What an opening promises, whatever the book and the date; and what it does to a product's limits and a group's level and mark.
-use Rattle.std.specs.Prelude.{ℕ, ◌≡◌, Bool, true, false, ◌&&◌, cond, List, eqb, length, get_or, replicate}
-use Rattle.std.proofs.Math.Option.{some}
-use Rattle.grain.specs.Lists.{any}
+-- What an opening promises, whatever the book and the date; and what it does to a product's items and a group's level and mark.
+use Rattle.std.specs.Prelude.{ℕ, ◌≡◌, Bool, true, false, ◌&&◌, cond, List, eqb, length, get_or, replicate, Option, Some, None, unwrap_or, Result, Ok, Err}
+use Rattle.std.specs.List.{list_any}
 use Rattle.grain.specs.Products.{product_count}
 use Rattle.grain.specs.Amounts.{window_length, expanded_of, season_of}
+use Rattle.grain.specs.declared.amounts.Limit.{Limit}
+use Rattle.grain.specs.declared.refusals.Refusal.{Refusal}
 use Rattle.record.specs.declared.Day.{Day}
 use Rattle.record.specs.Opening.{is_true_day}
-use Rattle.record.specs.Record.{opening, Answer, opened, refusal}
-use Rattle.book.specs.declared.Limit.{Limit}
+use Rattle.record.specs.Record.{opening, Answer, opened}
+use Rattle.windows.specs.Windows.{empty_window, shown}
+use Rattle.book.specs.declared.product.Product.{Product as Held}
 use Rattle.book.specs.declared.Standing.{Standing}
 use Rattle.book.specs.declared.Book.{Book}
-use Rattle.book.specs.Book.{is_no_day, view}
+use Rattle.book.specs.Book.{no_standing}
 use Rattle.book.specs.Calls.{Responds, answer_as}
-use Rattle.opening.specs.declared.Opened.{Opened}
 
 abbrev pub day_on : ℕ → ℕ → ℕ → ℕ → Day
 day_on year month day left = record { year = year; month = month; day = day; left = left }
 
-abbrev pub opened_as : Opened → Answer
-opened_as r = answer_as r.refusal (opened r.renewed)
+abbrev pub opened_as : Result (List Bool) Refusal → Answer
+opened_as r = answer_as opened r
 
-pub record Opens (b : Book) (d : Day) (r : Opened) : Type 0 where
-  pub responds : Responds b (opening d) (opened_as r) r.book
-  -- a refused opening says no for every product
-  pub silent : (n : ℕ) → refusal (view b) (opening d) ≡ some n → r.renewed ≡ replicate product_count false
+abbrev pub Opens : Book → Day → Result (List Bool) Refusal → Book → Type 0
+Opens b d r after = Responds b (opening d) (opened_as r) after
 
--- four zeros, or a date with its left
-abbrev pub NoneOrTrue : Day → Type 0
-NoneOrTrue d = is_no_day d ≡ false → is_true_day d ≡ true
+-- a refused opening says no for every product
+abbrev pub renewed_in : Result (List Bool) Refusal → List Bool
+renewed_in (Ok l) = l
+renewed_in (Err e) = replicate product_count false
+
+-- no day, or a date with its left
+abbrev pub NoneOrTrue : Option Day → Type 0
+NoneOrTrue None = Unit {0}
+NoneOrTrue (Some d) = is_true_day d ≡ true
 
 -- one season later, with a full window
 abbrev pub is_renewed_by : Bool → List ℕ → Bool
 is_renewed_by renews window = renews && eqb (length window) window_length
 
-abbrev pub limit_on : Bool → List ℕ → ℕ → Limit → Limit
-limit_on renews window p limit =
+-- the season limits, where the product gets them
+abbrev pub new_limit : Bool → List ℕ → ℕ → Option Limit
+new_limit renews window p =
     cond (is_renewed_by renews window)
-    (record { initial = season_of p window; expanded = expanded_of p (season_of p window) })
-    limit
+    (Some (record { initial = season_of p window; expanded = expanded_of p (season_of p window) }))
+    None
+
+-- and otherwise those that it has
+abbrev pub limit_on : Bool → List ℕ → ℕ → Limit → Limit
+limit_on renews window p limit = unwrap_or (new_limit renews window p) limit
+
+-- the window is emptied where the season is another; sheets stay
+abbrev pub items_with : Limit → Bool → Held → Held
+items_with limit empties h =
+    record {
+      limit = limit;
+      window = cond empties empty_window h.window;
+      today = h.today;
+      last = h.last;
+    }
+
+abbrev pub items_on : Bool → Bool → ℕ → Held → Held
+items_on renews empties p h = items_with (limit_on renews (shown h.window) p h.limit) empties h
 
 -- the answers for all products say yes for one of these
 abbrev pub is_one_renewed : List Bool → List ℕ → Bool
-is_one_renewed renewed ps = any (λ p. get_or renewed p false) ps
+is_one_renewed renewed ps = list_any (λ p. get_or renewed p false) ps
 
 -- a group with new limits starts at the initial level, with no mark
 abbrev pub standing_on : Bool → Standing → Standing
-standing_on is_renewed s = cond is_renewed (record { expanded = false; marked = false }) s
+standing_on is_renewed s = cond is_renewed no_standing s

@@ -9,31 +9,30 @@ ghost use Rattle.book.specs.Book.{view};
 ghost use Rattle.opening.specs.Opens.{day_on, Opens};
 
 use book::Book;
-use grain::PRODUCT_COUNT;
+use grain::{PRODUCT_COUNT, Refusal};
 use record::Day;
 
+mod last;
 mod refusals;
 mod renewal;
 mod seasons;
 mod standings;
 
+use last::last_opened;
 use refusals::refusal_of;
-use renewal::{limits_on, renewed_on, windows_on};
-use seasons::{is_next_season, is_other_season};
+use renewal::open_products;
+use seasons::SeasonChange;
 use standings::standings_on;
 
-#[derive(Clone, Copy)]
-pub struct Opened {
-    // 0, or the number of the refusal.
-    pub refusal: u32,
-    // For each product, whether it got new limits.
-    pub renewed: [bool; PRODUCT_COUNT],
-    pub book: Book,
-}
-
-// left: the business days of that month after this day.
-pub fn opening(b: Book, year: u32, month: u32, day: u32, left: u32) -> Opened
-    ensures { Opens b (day_on year month day left) result }
+// For each product, whether it got new limits. Four numbers, as a caller in C has them; left: the business days of that month after this day.
+pub fn opening(
+    b: &mut Book,
+    year: u32,
+    month: u32,
+    day: u32,
+    left: u32,
+) -> Result<[bool; PRODUCT_COUNT], Refusal>
+    ensures { Opens b.old (day_on year month day left) result b.new }
 {
     let d = Day {
         year,
@@ -41,38 +40,19 @@ pub fn opening(b: Book, year: u32, month: u32, day: u32, left: u32) -> Opened
         day,
         left,
     };
-    let refusal = refusal_of(b, d);
-    if refusal != 0 {
-        return Opened {
-            refusal,
-            renewed: [false; PRODUCT_COUNT],
-            book: b,
-        };
-    }
-    accepted(b, d)
+    refusal_of(b, d)?;
+    Ok(accept(b, d))
 }
 
-// What an accepted opening leaves: new limits, with them the initial level, then the emptying of windows; sheets stay.
-fn accepted(b: Book, d: Day) -> Opened
-    requires { (is_sound (view b) ≡ true) × (is_true_day d ≡ true) }
-    ensures { (result.refusal ≡ 0) × (answered result.renewed ≡ answer (view b) (call d)) × (view result.book ≡ next_state (view b) (call d)) }
+// What an accepted opening does: new limits, with them the initial level, and the emptying of windows; sheets stay.
+fn accept(b: &mut Book, d: Day) -> [bool; PRODUCT_COUNT]
+    requires { (is_sound (view b.old) ≡ true) × (is_true_day d ≡ true) }
+    ensures { (answered result ≡ answer (view b.old) (call d)) × (view b.new ≡ next_state (view b.old) (call d)) }
 {
-    let last = b.day;
-    let w = b.windows;
-    let standings = b.standings;
-    let renews = is_next_season(last, d);
-    let renewed = renewed_on(renews, w);
-    let mut next = b;
-    let limits = limits_on(renews, b);
-    next.limits = limits;
-    let started = standings_on(renewed, standings);
-    next.standings = started;
-    next.windows = windows_on(is_other_season(last, d), w);
-    next.day = d;
-    next.is_open = true;
-    Opened {
-        refusal: 0,
-        renewed,
-        book: next,
-    }
+    let change = SeasonChange::since(last_opened(b), d);
+    let renewed = open_products(change, &mut b.products);
+    b.standings = standings_on(&renewed, b.standings);
+    b.day = d;
+    b.is_open = true;
+    renewed
 }

@@ -1,75 +1,63 @@
 // What refuses an opening: 1, 2, 3, 4, 16 in this order.
-ghost use Rattle.std.specs.Prelude.{◌≡◌, true};
-ghost use Rattle.record.specs.Choices.{or_else};
+ghost use Rattle.std.specs.Prelude.{◌≡◌, true, leb};
 ghost use Rattle.record.specs.Opening.{is_true_day, date_number, is_not_later, is_same_month, is_left_not_smaller};
 ghost use Rattle.record.specs.Record.{opening, refusal};
-ghost use Rattle.book.specs.Book.{opened_of, view};
+ghost use Rattle.book.specs.Book.{view};
+ghost use Rattle.book.specs.Calls.{refusal_in};
 ghost use Rattle.opening.specs.Opens.{NoneOrTrue};
 
+use crate::last::last_opened;
 use book::Book;
-use grain::refusals::NO_SUCH_DATE;
+use grain::Refusal;
 use record::Day;
-use record::refusals::{LEFT_NOT_SMALLER, NOT_LATER, UNSOUND, WRONG_PHASE};
 
-fn date_number(d: Day) -> u32
-    requires { is_true_day d ≡ true }
-    ensures { result ≡ date_number d }
+// By year, then month, then day.
+fn is_not_past(before: Day, d: Day) -> bool
+    requires { (is_true_day before ≡ true) × (is_true_day d ≡ true) }
+    ensures { result ≡ leb (date_number d) (date_number before) }
 {
-    d.year * 10000 + d.month * 100 + d.day
+    (d.year, d.month, d.day) <= (before.year, before.month, before.day)
 }
 
 // The date is not later than the last opened, where there is one.
-fn is_not_later(last: Day, d: Day) -> bool
+fn is_not_later(last: Option<Day>, d: Day) -> bool
     requires { NoneOrTrue last × (is_true_day d ≡ true) }
-    ensures { result ≡ is_not_later (opened_of last) d }
+    ensures { result ≡ is_not_later last d }
 {
-    if book::is_no_day(last) {
-        return false;
-    }
-    date_number(d) <= date_number(last)
+    last.is_some_and(|before| is_not_past(before, d))
 }
 
-fn is_same_month(last: Day, d: Day) -> bool
-    ensures { result ≡ is_same_month last d }
+fn is_same_month(before: Day, d: Day) -> bool
+    ensures { result ≡ is_same_month before d }
 {
-    if d.year != last.year {
-        return false;
-    }
-    d.month == last.month
+    d.year == before.year && d.month == before.month
 }
 
 // In the month of the last opened day, with a left that has not fallen since.
-fn is_left_not_smaller(last: Day, d: Day) -> bool
-    ensures { result ≡ is_left_not_smaller (opened_of last) d }
+fn is_left_not_smaller(last: Option<Day>, d: Day) -> bool
+    ensures { result ≡ is_left_not_smaller last d }
 {
-    if book::is_no_day(last) {
-        return false;
-    }
-    if !is_same_month(last, d) {
-        return false;
-    }
-    last.left <= d.left
+    last.is_some_and(|before| is_same_month(before, d) && before.left <= d.left)
 }
 
-// 0 where nothing refuses it.
-pub(crate) fn refusal_of(b: Book, d: Day) -> u32
-    ensures { result ≡ or_else (refusal (view b) (opening d)) 0 }
+pub(crate) fn refusal_of(b: &Book, d: Day) -> Result<(), Refusal>
+    ensures { refusal_in result ≡ refusal (view b.now) (opening d) }
 {
     if !b.is_sound() {
-        return UNSOUND;
+        return Err(Refusal::Unsound);
     }
     if b.is_open {
-        return WRONG_PHASE;
+        return Err(Refusal::WrongPhase);
     }
     if !book::is_true_day(d) {
-        return NO_SUCH_DATE;
+        return Err(Refusal::NoSuchDate);
     }
-    let last = b.day;
+    let last = last_opened(b);
     if is_not_later(last, d) {
-        return NOT_LATER;
+        return Err(Refusal::NotLater);
     }
     if is_left_not_smaller(last, d) {
-        return LEFT_NOT_SMALLER;
+        return Err(Refusal::LeftNotSmaller);
     }
-    0
+    Ok(())
 }

@@ -1,10 +1,8 @@
 // The season of a date against that of the last opened day.
 ghost use Rattle.std.specs.Prelude.{◌≡◌, true};
 ghost use Rattle.record.specs.Opening.{is_true_day, season_on, is_next_season, is_other_season};
-ghost use Rattle.book.specs.Book.{opened_of};
 ghost use Rattle.opening.specs.Opens.{NoneOrTrue};
 
-use grain::DateFacts;
 use record::Day;
 
 // The season's number of a true day.
@@ -12,34 +10,36 @@ fn season_of(d: Day) -> u32
     requires { is_true_day d ≡ true }
     ensures { result ≡ season_on d }
 {
-    let DateFacts::On {
-        month: _,
-        season,
-        remaining: _,
-    } = grain::date_facts(d.year, d.month, d.day)
-    else {
-        return 0;
-    };
-    season
+    match grain::date_facts(d.year, d.month, d.day) {
+        Ok(facts) => facts.season,
+        Err(_) => 0,
+    }
 }
 
-// Exactly one season after that of the last opened day; the first opening has none before it.
-pub(crate) fn is_next_season(last: Day, d: Day) -> bool
-    requires { NoneOrTrue last × (is_true_day d ≡ true) }
-    ensures { result ≡ is_next_season (opened_of last) d }
-{
-    if book::is_no_day(last) {
-        return false;
-    }
-    season_of(d) == season_of(last) + 1
+// How the season of a day is to that of the last opened one.
+// Two flags, each a definition of the Record: is_next_season and is_other_season.
+#[derive(Clone, Copy, Debug, Default, PartialEq, Eq)]
+pub(crate) struct SeasonChange {
+    // It is exactly the next: full windows give new limits.
+    pub(crate) renews: bool,
+    // It is another: windows are emptied.
+    pub(crate) empties: bool,
 }
 
-pub(crate) fn is_other_season(last: Day, d: Day) -> bool
-    requires { NoneOrTrue last × (is_true_day d ≡ true) }
-    ensures { result ≡ is_other_season (opened_of last) d }
-{
-    if book::is_no_day(last) {
-        return false;
+impl SeasonChange {
+    // The first opening has no season before it.
+    pub(crate) fn since(last: Option<Day>, d: Day) -> SeasonChange
+        requires { NoneOrTrue last × (is_true_day d ≡ true) }
+        ensures { (result.renews ≡ is_next_season last d) × (result.empties ≡ is_other_season last d) }
+    {
+        let Some(before) = last else {
+            return SeasonChange::default();
+        };
+        let season = season_of(d);
+        let season_before = season_of(before);
+        SeasonChange {
+            renews: season == season_before + 1,
+            empties: season != season_before,
+        }
     }
-    season_of(d) != season_of(last)
 }

@@ -9,30 +9,28 @@ use book::Standing;
 use grain::PRODUCT_COUNT;
 use record::GROUP_COUNT;
 
+// The initial level, with no mark, for a group that gets new limits.
 fn standing_on(is_renewed: bool, standing: Standing) -> Standing
     ensures { result ≡ standing_on is_renewed standing }
 {
-    if !is_renewed {
-        return standing;
+    if is_renewed {
+        return Standing::default();
     }
-    Standing {
-        expanded: false,
-        marked: false,
-    }
+    standing
 }
 
 // `renewed` says of each product whether it gets new limits: one that does brings its whole group to the initial level.
 pub(crate) fn standings_on(
-    renewed: [bool; PRODUCT_COUNT],
+    renewed: &[bool; PRODUCT_COUNT],
     standings: [Standing; GROUP_COUNT],
 ) -> [Standing; GROUP_COUNT]
-    ensures { (g : ℕ) → g < group_count → get_or result g no_standing ≡ standing_on (is_one_renewed renewed (products_of g)) (get_or standings g no_standing) }
+    ensures { (g : ℕ) → g < group_count → get_or result g no_standing ≡ standing_on (is_one_renewed renewed.now (products_of g)) (get_or standings g no_standing) }
 {
     let mut after = standings;
-    for p in 0..PRODUCT_COUNT {
+    for (p, is_renewed) in renewed.iter().enumerate() {
         let g = book::group_of(p);
         let standing = after[g];
-        after[g] = standing_on(renewed[p], standing);
+        after[g] = standing_on(*is_renewed, standing);
     }
     after
 }
