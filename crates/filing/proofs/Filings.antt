@@ -3,30 +3,29 @@ use Prim.Native.Nat.{ℕ, ◌<◌, ◌≤◌}
 use mathlib.Core.Path.{◌≡◌, refl, sym, ◌∙◌, ap}
 use mathlib.Core.Bool.{Bool, true, false, not, ◌||◌, cond}
 use mathlib.Core.List.{List, [], ◌∷◌, ◌++◌}
-use mathlib.Core.Option.{Option, some, none}
+use Rattle.std.specs.Prelude.{Option, Some, None}
+use Rattle.std.specs.Option.{option_or}
 use native.Mathlib.Omega.{arith}
 use lib.Dec.{ltb, eqb}
-use lib.ListN.{length, get_or, set}
+use lib.ListN.{length, set}
 use lib.Seq.{take_all, get_or-set_same, get_or-set_other}
 use borrow.Author.Tests.{not-false, eqb-true, eqb-false, ltb-true, ltb-false, ne_eqb}
 use Rattle.grain.specs.Refusals.{bad_price}
-use Rattle.grain.specs.Lists.{every, ◌and◌}
 use Rattle.grain.proofs.Tests.{neither}
 use Rattle.record.specs.declared.Contract.{Contract}
-use Rattle.record.specs.Choices.{or_else}
 use Rattle.record.specs.Refusals.{Test, when, first, bad_month, contract_absent, beyond_limit}
 use Rattle.record.specs.State.{Record, day_of, month_of, is_spot_on, group_of, group_at, product_in, todays_limit, sheet_or}
 use Rattle.record.specs.Sheet.{contracts, is_misshapen, has_bad_month, has_bad_settlement, lacks_contract, is_beyond, sheet_tests, file_product, file_group}
 use Rattle.record.specs.Sound.{is_sound}
 use Rattle.record.specs.Record.{sheet, tests, refusal, next, next_common, next_group}
 use Rattle.record.proofs.Cleared.{cleared}
-use Rattle.sheets.specs.declared.Sheet.{Sheet}
+use Rattle.sheets.specs.declared.sheet.Sheet.{Sheet}
 use Rattle.sheets.specs.Sheets.{entries_of, sheet_in, months_of, settlements_of, SheetOf}
 use Rattle.sheets.proofs.Rest.{counted}
 use Rattle.sheets.proofs.Fills.{contracts-length}
 use Rattle.book.specs.declared.Book.{Book}
-use Rattle.book.specs.Book.{no_sheet, today_in, view_product, view_group, view_common, view}
-use Rattle.book.proofs.Numbered.{none-by}
+use Rattle.book.specs.declared.product.Product.{Product as Held}
+use Rattle.book.specs.Book.{no_items, limit_in, window_in, last_in, view_product, view_group, view_common, view, view_held}
 use Rattle.book.proofs.Views.{open_is, group_view, next-view}
 use Rattle.filing.specs.Files.{early_tests, contract_tests}
 
@@ -70,16 +69,12 @@ made ms ss s of e =
     record { len = of.len ∙ ap length all ∙ as_long; entries = of.entries ∙ all }
 
 -- ---- the refusals in two parts
-abbrev or_later : Option ℕ → Option ℕ → Option ℕ
-or_later (some n) o = some n
-or_later none o = o
-
-first_joined : (l m : List Test) → first (l ++ m) ≡ or_later (first l) (first m)
+first_joined : (l m : List Test) → first (l ++ m) ≡ option_or (first l) (first m)
 first_joined [] m = refl
 first_joined (t ∷ l) m = go t.applies (first_joined l m)
   where
-    go : (b : Bool) → first (l ++ m) ≡ or_later (first l) (first m)
-        → cond b (some t.number) (first (l ++ m)) ≡ or_later (cond b (some t.number) (first l)) (first m)
+    go : (b : Bool) → first (l ++ m) ≡ option_or (first l) (first m)
+        → cond b (Some t.number) (first (l ++ m)) ≡ option_or (cond b (Some t.number) (first l)) (first m)
     go true e = refl
     go false e = e
 
@@ -94,73 +89,74 @@ module _ (r : Record) (p : ℕ) (ms ss : List ℕ) where
       ∷ when (is_beyond (is_spot_on d) (todays_limit g p) (sheet_or (product_in g p).last) (contracts ms ss)) beyond_limit
       ∷ []
 
-  refusal_is : refusal r (sheet p ms ss) ≡ or_later (first (early_tests r p ms ss)) (first later)
+  refusal_is : refusal r (sheet p ms ss) ≡ option_or (first (early_tests r p ms ss)) (first later)
   unfolding refusal tests sheet_tests later
   refusal_is = first_joined (early_tests r p ms ss) later
 
-  pub refused_early : (n : ℕ) → first (early_tests r p ms ss) ≡ some n → refusal r (sheet p ms ss) ≡ some n
-  refused_early n e = refusal_is ∙ ap (λ (o : Option ℕ). or_later o (first later)) e
+  pub refused_early : (n : ℕ) → first (early_tests r p ms ss) ≡ Some n → refusal r (sheet p ms ss) ≡ Some n
+  refused_early n e = refusal_is ∙ ap (λ (o : Option ℕ). option_or o (first later)) e
 
-  pub refused_late : first (early_tests r p ms ss) ≡ none → length ss ≡ length ms
+  refused_late : first (early_tests r p ms ss) ≡ None → length ss ≡ length ms
       → refusal r (sheet p ms ss) ≡ first (contract_tests r p (contracts ms ss))
   unfolding later
   refused_late e same =
       refusal_is
-      ∙ ap (λ (o : Option ℕ). or_later o (first later)) e
+      ∙ ap (λ (o : Option ℕ). option_or o (first later)) e
       ∙ sym (rw (months_are ms ss same, settlements_are ms ss same))
 
 -- what the early tests say where none applies
 pub record Early (b : Book) (p : ℕ) (ms ss : List ℕ) : Type 0 where
+  pub passed : first (early_tests (view b) p ms ss) ≡ None
   pub sound : is_sound (view b) ≡ true
   pub is_open : b.is_open ≡ true
   pub product : p < 8
   pub arrays : Shape ms ss
 
-pub early_none : (b : Book) (p : ℕ) (ms ss : List ℕ) (n : ℕ) → n ≡ or_else (first (early_tests (view b) p ms ss)) 0 → n ≡ 0
-    → first (early_tests (view b) p ms ss) ≡ none
-unfolding every ◌and◌
-early_none b p ms ss n e z = none-by (early_tests (view b) p ms ss) refl n e z
-
-pub early_facts : (b : Book) (p : ℕ) (ms ss : List ℕ) → first (early_tests (view b) p ms ss) ≡ none → Early b p ms ss
-early_facts b p ms ss e =
+pub early : (b : Book) (p : ℕ) (ms ss : List ℕ) → first (early_tests (view b) p ms ss) ≡ None → Early b p ms ss
+early b p ms ss e =
     let c = cleared (early_tests (view b) p ms ss) e in
     record {
+      passed = e;
       sound = not-false _ c.0;
       is_open = sym (open_is b) ∙ not-false _ c.1.0;
       product = ltb-true p 8 (not-false _ c.1.1.0);
       arrays = shape ms ss c.1.1.1.1.0;
     }
 
+-- past them, the tests over the contracts decide
+pub refusal_late : (b : Book) (p : ℕ) (ms ss : List ℕ) (s : Sheet) → Early b p ms ss → Made ms ss s
+    → refusal (view b) (sheet p ms ss) ≡ first (contract_tests (view b) p (entries_of s))
+refusal_late b p ms ss s e is =
+    refused_late (view b) p ms ss e.passed e.arrays.same
+    ∙ sym (ap (λ (cs : List Contract). first (contract_tests (view b) p cs)) is.entries)
+
 -- ---- the book with the sheet in
+abbrev pub filed_items : Book → ℕ → Sheet → Held
+filed_items b p s =
+    record { limit = limit_in b p; window = window_in b p; today = s; last = last_in b p }
+
 abbrev pub filed_book : Book → ℕ → Sheet → Book
 filed_book b p s =
     record {
       edition = b.edition;
-      limits = b.limits;
       standings = b.standings;
-      windows = b.windows;
-      today = set b.today p s;
-      last = b.last;
+      products = set b.products p (filed_items b p s);
       day = b.day;
       is_open = b.is_open;
     }
 
-pub sheet_in_lem : (s : Sheet) (cs : List Contract) → (s.len ≡ 0 → ⊥) → s.len ≤ 16 → entries_of s ≡ cs → sheet_in s ≡ some cs
+pub sheet_in_lem : (s : Sheet) (cs : List Contract) → (s.len ≡ 0 → ⊥) → s.len ≤ 16 → entries_of s ≡ cs → sheet_in s ≡ Some cs
 unfolding sheet_in
 sheet_in_lem s cs n l e = rw (ne_eqb s.len 0 n, counted s l, e)
 
-module _ (b : Book) (p : ℕ) (s : Sheet) (ms ss : List ℕ) (l : p < length b.today) (e : sheet_in s ≡ some (contracts ms ss)) where
-  today-after : (q : ℕ) → sheet_in (get_or (set b.today p s) q no_sheet) ≡ cond (eqb q p) (some (contracts ms ss)) (sheet_in (today_in b q))
-  today-after q = go (eqb q p) refl
-    where
-      go : (same : Bool) → eqb q p ≡ same
-          → sheet_in (get_or (set b.today p s) q no_sheet) ≡ cond same (some (contracts ms ss)) (sheet_in (today_in b q))
-      go true h = rw (eqb-true q p h, get_or-set_same b.today p s no_sheet l) e
-      go false h = ap sheet_in (get_or-set_other b.today p q s no_sheet (eqb-false q p h))
-
+module _ (b : Book) (p : ℕ) (s : Sheet) (ms ss : List ℕ) (l : p < length b.products) (e : sheet_in s ≡ Some (contracts ms ss)) where
   product_after : (q : ℕ) → view_product (filed_book b p s) q ≡ file_product p (contracts ms ss) (view_product b q)
-  unfolding view_product file_product
-  product_after q = rw (today-after q)
+  unfolding view_held file_product
+  product_after q = go (eqb q p) refl
+    where
+      go : (same : Bool) → eqb q p ≡ same → view_product (filed_book b p s) q ≡ file_product p (contracts ms ss) (view_product b q)
+      go true h = rw (h, eqb-true q p h, get_or-set_same b.products p (filed_items b p s) no_items l, e)
+      go false h = rw (h, get_or-set_other b.products p q (filed_items b p s) no_items (eqb-false q p h))
 
   pub filed_view : view (filed_book b p s) ≡ next (view b) (sheet p ms ss)
   unfolding view_common next_common next_group file_group view_group

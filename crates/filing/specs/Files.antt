@@ -1,9 +1,9 @@
 -- What a sheet promises, whatever the book, the product and the two arrays.
-use Rattle.std.specs.Prelude.{ℕ, not, List, [], ◌∷◌}
+use Rattle.std.specs.Prelude.{ℕ, not, List, [], ◌∷◌, is_some, Result}
 use Rattle.grain.specs.Products.{is_product}
 use Rattle.grain.specs.Refusals.{no_such_product, misshapen, bad_price}
+use Rattle.grain.specs.declared.refusals.Refusal.{Refusal}
 use Rattle.record.specs.declared.Contract.{Contract}
-use Rattle.record.specs.Choices.{is_some}
 use Rattle.record.specs.Refusals.{Test, when, unsound, wrong_phase, already_in, bad_month, contract_absent, beyond_limit}
 use Rattle.record.specs.State.{Record, day_of, month_of, is_spot_on, group_of, group_at, product_in, todays_limit, sheet_or}
 use Rattle.record.specs.Sheet.{is_misshapen, has_bad_month, has_bad_settlement, lacks_contract, is_beyond}
@@ -12,13 +12,12 @@ use Rattle.record.specs.Record.{sheet, Answer, filed}
 use Rattle.sheets.specs.Sheets.{months_of, settlements_of}
 use Rattle.book.specs.declared.Book.{Book}
 use Rattle.book.specs.Calls.{Responds, answer_as}
-use Rattle.filing.specs.declared.Filed.{Filed}
 
-abbrev pub filed_as : Filed → Answer
-filed_as r = answer_as r.refusal filed
+abbrev pub filed_as : Result (Unit {0}) Refusal → Answer
+filed_as r = answer_as (λ _. filed) r
 
-abbrev pub Files : Book → ℕ → List ℕ → List ℕ → Filed → Type 0
-Files b p ms ss r = Responds b (sheet p ms ss) (filed_as r) r.book
+abbrev pub Files : Book → ℕ → List ℕ → List ℕ → Result (Unit {0}) Refusal → Book → Type 0
+Files b p ms ss r after = Responds b (sheet p ms ss) (filed_as r) after
 
 -- For the functions inside: the Record's tests in two parts, which proofs/Filings.antt holds against them.
 -- the refusals before the contracts are looked at: 1, 2, 5, 11, 6

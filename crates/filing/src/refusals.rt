@@ -1,49 +1,49 @@
 // What refuses a sheet: 1, 2, 5, 11, 6, 7, 8, 9, 10 in this order, each test over all contracts before the next.
 ghost use Rattle.std.specs.Prelude.{◌≡◌, true, ◌<◌};
 ghost use Rattle.grain.specs.Products.{product_count};
-ghost use Rattle.record.specs.Choices.{or_else};
 ghost use Rattle.record.specs.Refusals.{first};
 ghost use Rattle.record.specs.State.{trade_date};
 ghost use Rattle.record.specs.Sheet.{has_bad_month};
 ghost use Rattle.record.specs.Sound.{is_sound};
 ghost use Rattle.sheets.specs.Sheets.{entries_of, months_of};
 ghost use Rattle.book.specs.Book.{view};
+ghost use Rattle.book.specs.Calls.{refusal_in};
 ghost use Rattle.filing.specs.Files.{early_tests, contract_tests};
 
 use book::Book;
-use grain::TradeDate;
-use grain::refusals::{BAD_PRICE, MISSHAPEN, NO_SUCH_PRODUCT};
-use record::refusals::{
-    ALREADY_IN, BAD_MONTH, BEYOND_LIMIT, CONTRACT_ABSENT, UNSOUND, WRONG_PHASE,
-};
+use grain::{Refusal, TradeDate};
 use sheets::Sheet;
 
-// Those before the contracts are looked at; 0 where none refuses it.
-pub(crate) fn early_refusal(b: Book, product: u32, months: &[u32], settlements: &[u32]) -> u32
-    ensures { result ≡ or_else (first (early_tests (view b) product months.now settlements.now)) 0 }
+// Those before the contracts are looked at.
+#[tactic(auto, using(book::proofs::Views::open_is, crate::proofs::EarlyTests::early_is))]
+pub(crate) fn early_refusal(
+    b: &Book,
+    product: u32,
+    months: &[u32],
+    settlements: &[u32],
+) -> Result<(), Refusal>
+    ensures { refusal_in result ≡ first (early_tests (view b.now) product months.now settlements.now) }
 {
     if !b.is_sound() {
-        return UNSOUND;
+        return Err(Refusal::Unsound);
     }
     if !b.is_open {
-        return WRONG_PHASE;
+        return Err(Refusal::WrongPhase);
     }
     if !grain::is_product(product) {
-        return NO_SUCH_PRODUCT;
+        return Err(Refusal::NoSuchProduct);
     }
-    let todays = b.today;
-    let today = todays[product as usize];
-    if today.len != 0 {
-        return ALREADY_IN;
+    if !b.products[product as usize].today.is_none() {
+        return Err(Refusal::AlreadyIn);
     }
     if sheets::is_misshapen(months, settlements) {
-        return MISSHAPEN;
+        return Err(Refusal::Misshapen);
     }
-    0
+    Ok(())
 }
 
-fn has_bad_month(date: TradeDate, product: u32, s: Sheet) -> bool
-    ensures { result ≡ has_bad_month date.month product (months_of (entries_of s)) }
+fn has_bad_month(date: TradeDate, product: u32, s: &Sheet) -> bool
+    ensures { result ≡ has_bad_month date.month product (months_of (entries_of s.now)) }
 {
     if !s.is_ascending() {
         return true;
@@ -54,25 +54,30 @@ fn has_bad_month(date: TradeDate, product: u32, s: Sheet) -> bool
     !s.starts_from(date.month)
 }
 
-// Those that look at the contracts; 0 where none refuses it.
-pub(crate) fn contract_refusal(b: Book, date: TradeDate, p: usize, s: Sheet) -> u32
-    requires { (p < product_count) × (is_sound (view b) ≡ true) × (date ≡ trade_date b.day) }
-    ensures { result ≡ or_else (first (contract_tests (view b) p (entries_of s))) 0 }
+// Those that look at the contracts.
+#[tactic(auto, using(crate::proofs::Contracts::late_is))]
+pub(crate) fn contract_refusal(
+    b: &Book,
+    date: TradeDate,
+    p: usize,
+    s: &Sheet,
+) -> Result<(), Refusal>
+    requires { (p < product_count) × (is_sound (view b.now) ≡ true) × (date ≡ trade_date b.now.day) }
+    ensures { refusal_in result ≡ first (contract_tests (view b.now) p (entries_of s.now)) }
 {
     let product = p as u32;
     if has_bad_month(date, product, s) {
-        return BAD_MONTH;
+        return Err(Refusal::BadMonth);
     }
     if !s.is_settled(product) {
-        return BAD_PRICE;
+        return Err(Refusal::BadPrice);
     }
-    let lasts = b.last;
-    let last = lasts[p];
+    let last = &b.products[p].last;
     if s.lacks_contract(date, last) {
-        return CONTRACT_ABSENT;
+        return Err(Refusal::ContractAbsent);
     }
     if s.is_beyond(date, b.limit_of(p), last) {
-        return BEYOND_LIMIT;
+        return Err(Refusal::BeyondLimit);
     }
-    0
+    Ok(())
 }
