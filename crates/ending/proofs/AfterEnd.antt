@@ -1,39 +1,33 @@
 -- What an ended day leaves shows the Record's end.
 use Prim.Native.Nat.{ℕ, ◌<◌}
 use mathlib.Core.Path.{◌≡◌, refl, sym, ◌∙◌, ap}
-use mathlib.Core.Bool.{Bool, true, false, ◌&&◌, cond}
+use mathlib.Core.Bool.{Bool, false, ◌&&◌}
 use mathlib.Core.List.{List, map}
-use mathlib.Core.Option.{none}
-use lib.ListN.{get_or, get_or-map}
+use lib.ListN.{get_or}
 use borrow.Author.Tests.{ltb-true, eqb-true}
-use Rattle.grain.specs.Lists.{any}
+use Rattle.std.specs.List.{list_any}
 use Rattle.grain.specs.Products.{product_count}
-use Rattle.grain.specs.Amounts.{expanded_of}
 use Rattle.grain.proofs.Tests.{and_left, and_right}
 use Rattle.record.specs.declared.Day.{Day}
 use Rattle.record.specs.declared.Event.{Event}
 use Rattle.record.specs.declared.Event.TheVariants.{Quiet, Triggered, Held, Reverted, Raised}
-use Rattle.record.specs.declared.GroupEvent.{GroupEvent}
 use Rattle.record.specs.State.{Product, Group, group_table, group_count, group_of, day_of, trade_date}
 use Rattle.record.specs.Edition.{conditions_of}
 use Rattle.record.specs.Move.{Move, is_at_expanded, group_moves}
-use Rattle.record.specs.End.{group_event, event_of, level_after, mark_after, is_raised, end_product, end_group}
+use Rattle.record.specs.End.{group_event, event_of, level_after, mark_after, end_product, end_group}
 use Rattle.record.specs.Sound.{is_expanded}
 use Rattle.record.specs.Record.{end, ended, answer, next, next_common, next_group}
 use Rattle.record.specs.History.{products_of}
 use Rattle.record.proofs.GroupTable.{is_member, members}
-use Rattle.sheets.specs.Sheets.{sheet_in}
-use Rattle.windows.specs.Windows.{window_of}
 use Rattle.book.specs.declared.Book.{Book}
-use Rattle.book.specs.declared.Limit.{Limit}
-use Rattle.book.specs.Book.{limit_in, standing_in, today_in, level_of, view_product, view_group, view_groups, view_common, view}
+use Rattle.book.specs.Book.{standing_in, level_of, view_product, view_group, view_groups, view_common, view}
 use Rattle.book.specs.Numbers.{all_groups}
 use Rattle.book.proofs.SoundFacts.{day_is}
 use Rattle.book.proofs.Shown.{has_marks}
 use Rattle.book.proofs.Numbers.{value_at, map_twice}
 use Rattle.book.proofs.Views.{shown_group, groups_are, same_groups, products_view, next-view}
 use Rattle.ending.specs.Lead.{moves_of}
-use Rattle.ending.specs.Ends.{quiet, events_of, event_in, standing_of_end, limit_after, limit_of_end, window_of_end}
+use Rattle.ending.specs.Ends.{quiet, event_in, standing_of_end}
 
 -- the moves of some products on the day of the book
 abbrev pub moves_today : Book → List ℕ → List (List Move)
@@ -43,16 +37,12 @@ abbrev pub event_today : Book → ℕ → Event
 event_today b g = event_in b (trade_date b.day) g
 
 -- what is left, field by field
-pub record Leaves (b z : Book) (es : List GroupEvent) : Type 0 where
-  pub events : events_of es ≡ map (event_today b) all_groups
+pub record Leaves (b z : Book) (es : List Event) : Type 0 where
+  pub events : es ≡ map (event_today b) all_groups
   pub standings : (g : ℕ) → g < group_count
       → standing_in z g ≡ standing_of_end b (trade_date b.day) es g
-  pub limits : (p : ℕ) → p < product_count
-      → limit_in z p ≡ limit_of_end es b.limits p
-  pub windows : (p : ℕ) → p < product_count
-      → window_of z.windows p ≡ window_of_end b p
-  pub today : (p : ℕ) → p < product_count → sheet_in (today_in z p) ≡ none
-  pub last : z.last ≡ b.today
+  pub products : (p : ℕ) → p < product_count
+      → view_product z p ≡ end_product b.day (get_or es (group_of p) quiet) (view_product b p)
   pub edition : z.edition ≡ b.edition
   pub day : z.day ≡ b.day
   pub is_open : z.is_open ≡ false
@@ -77,7 +67,7 @@ events_are b =
 -- what an end makes of a group
 abbrev group_after : Bool → Day → Event → List (List Move) → List Product → Group
 group_after marks d e mss qs =
-    record { level = level_after e; mark = mark_after e (marks && any (any is_at_expanded) mss); products = map (end_product d e) qs }
+    record { level = level_after e; mark = mark_after e (marks && list_any (list_any is_at_expanded) mss); products = map (end_product d e) qs }
 
 group_after_lem : (b : Book) (g : ℕ)
     → end_group (view_common b) (view_group b g (products_of g))
@@ -98,36 +88,18 @@ level_of_lem (Held l) = refl
 level_of_lem Reverted = refl
 level_of_lem (Raised l) = refl
 
-initial_after : (raised : Bool) (p : ℕ) (l : Limit) → (limit_after raised p l).initial ≡ cond raised l.expanded l.initial
-initial_after true p l = refl
-initial_after false p l = refl
-
-expanded_after : (raised : Bool) (p : ℕ) (l : Limit)
-    → (limit_after raised p l).expanded ≡ cond raised (expanded_of p l.expanded) l.expanded
-expanded_after true p l = refl
-expanded_after false p l = refl
-
-module _ (b z : Book) (es : List GroupEvent) (after : Leaves b z es) where
-  event_at : (g : ℕ) → g < group_count → (get_or es g quiet).event ≡ event_today b g
-  event_at g l =
-      sym (get_or-map (λ (e : GroupEvent). e.event) es g quiet)
-      ∙ ap (λ (l : List Event). get_or l g Quiet) after.events
-      ∙ value_at Quiet (event_today b) group_count g l
-
-  product_after : (p : ℕ) → p < product_count → (e : Event) → (get_or es (group_of p) quiet).event ≡ e
-      → view_product z p ≡ end_product b.day e (view_product b p)
-  unfolding view_product end_product
-  product_after p l e is =
-      rw (after.limits p l, is, initial_after (is_raised e) p (limit_in b p), expanded_after (is_raised e) p (limit_in b p), after.windows p l, after.today p l, after.last)
+module _ (b z : Book) (es : List Event) (after : Leaves b z es) where
+  event_at : (g : ℕ) → g < group_count → get_or es g quiet ≡ event_today b g
+  event_at g l = ap (λ (l : List Event). get_or l g quiet) after.events ∙ value_at quiet (event_today b) group_count g l
 
   group_shown : (g : ℕ) → g < group_count → view_group z g (products_of g) ≡ end_group (view_common b) (view_group b g (products_of g))
   unfolding view_group
   group_shown g l =
       let e = event_today b g in
-      let products = products_view b z (end_product b.day e) (is_member g) (λ p t. product_after p (ltb-true _ _ (and_left _ _ t)) e (ap (λ (g : ℕ). (get_or es g quiet).event) (eqb-true _ _ (and_right _ _ t)) ∙ event_at g l)) (products_of g) (members g l) in
+      let products = products_view b z (end_product b.day e) (is_member g) (λ p t. after.products p (ltb-true _ _ (and_left _ _ t)) ∙ ap (λ (e : Event). end_product b.day e (view_product b p)) (ap (λ (g : ℕ). get_or es g quiet) (eqb-true _ _ (and_right _ _ t)) ∙ event_at g l)) (products_of g) (members g l) in
       sym (group_after_lem b g ∙ sym (rw (after.standings g l, event_at g l, level_of_lem e, products)))
 
-  pub end_answer : ended (events_of es) ≡ answer (view b) end
+  pub end_answer : ended es ≡ answer (view b) end
   unfolding answer view
   end_answer = ap ended (after.events ∙ sym (events_are b))
 

@@ -9,3 +9,7 @@ and_true false = refl
 pub and_false : (x : Bool) → x && false ≡ false
 and_false true = refl
 and_false false = refl
+
+pub and_comm : (x y : Bool) → x && y ≡ y && x
+and_comm x true = and_true x
+and_comm x false = and_false x

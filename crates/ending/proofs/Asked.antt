@@ -8,7 +8,7 @@ use Rattle.record.specs.Choices.{keep, concat_map}
 use Rattle.record.specs.Move.{Move}
 use Rattle.record.specs.Edition.{of2014, of2023, conditions_of}
 use Rattle.record.specs.End.{leading, triggering}
-use Rattle.ending.specs.declared.lead.Condition.TheVariants.{OneAtInitial, TwoAtInitial, AtLeastInitial, AtExpanded}
+use Rattle.ending.specs.declared.lead.condition.Condition.TheVariants.{OneAtInitial, TwoAtInitial, AtLeastInitial, AtExpanded}
 use Rattle.ending.specs.Lead.{lead_for, trigger_of, holding_of}
 
 module _ (edition : ℕ) (mss : List (List Move)) where

@@ -5,10 +5,10 @@ use mathlib.Core.Bool.{Bool, true, false, ◌&&◌, cond}
 use mathlib.Core.List.{List, [], ◌∷◌}
 use mathlib.Core.Logic.{inl, inr, ⊎_elim}
 use lib.Dec.{eqb}
-use Rattle.grain.specs.Lists.{any}
+use Rattle.std.specs.List.{list_any}
 use Rattle.record.specs.Choices.{keep}
 use Rattle.record.specs.Move.{Move}
-use Rattle.ending.specs.declared.lead.Condition.{Condition}
+use Rattle.ending.specs.declared.lead.condition.Condition.{Condition}
 use Rattle.ending.specs.Lead.{meets, suffice, candidates}
 use Rattle.ending.proofs.Ands.{and_true, and_false}
 use Rattle.ending.proofs.Members.{Member}
@@ -27,11 +27,11 @@ module _ (g : Move → Bool) where
       go true d later = ⊎_elim (λ same. inl same) (λ k. inr (later k)) d
       go false d later = inr (later d)
 
-  kept-month : (m : ℕ) (ms : List Move) → any (is_of m) (keep g ms) ≡ has_move g m ms
+  kept-month : (m : ℕ) (ms : List Move) → list_any (is_of m) (keep g ms) ≡ has_move g m ms
   kept-month m [] = refl
   kept-month m (v ∷ ms) = go (g v) refl (kept-month m ms)
     where
-      go : (x : Bool) → g v ≡ x → any (is_of m) (keep g ms) ≡ has_move g m ms → any (is_of m) (keep g (v ∷ ms)) ≡ has_move g m (v ∷ ms)
+      go : (x : Bool) → g v ≡ x → list_any (is_of m) (keep g ms) ≡ has_move g m ms → list_any (is_of m) (keep g (v ∷ ms)) ≡ has_move g m (v ∷ ms)
       go true e later = rw (e, later, and_true (is_of m v))
       go false e later = rw (e, later, and_false (is_of m v))
 
@@ -43,11 +43,11 @@ candidate_moves condition v ms = go (suffice condition (keep (meets condition) m
     go false d = absurd d
 
 pub candidates-month : (condition : Condition) (m : ℕ) (ms : List Move)
-    → any (is_of m) (candidates condition ms) ≡ suffice condition (keep (meets condition) ms) && has_move (meets condition) m ms
+    → list_any (is_of m) (candidates condition ms) ≡ suffice condition (keep (meets condition) ms) && has_move (meets condition) m ms
 candidates-month condition m ms =
     go (suffice condition (keep (meets condition) ms)) (keep (meets condition) ms)
     ∙ ap (suffice condition (keep (meets condition) ms) &&◌) (kept-month (meets condition) m ms)
   where
-    go : (x : Bool) (l : List Move) → any (is_of m) (cond x l []) ≡ x && any (is_of m) l
+    go : (x : Bool) (l : List Move) → list_any (is_of m) (cond x l []) ≡ x && list_any (is_of m) l
     go true l = refl
     go false l = refl

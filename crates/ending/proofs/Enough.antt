@@ -1,27 +1,32 @@
 -- Whether a product's moves of exactly I are enough in 2014, told by what its contracts count.
-use Prim.Native.Nat.{ℕ, pred, ◌+◌, ◌≤◌}
+use Prim.Native.Nat.{ℕ, pred, ◌+◌, ◌<◌, ◌≤◌}
 use mathlib.Core.Path.{◌≡◌, refl, sym, ◌∙◌, ap}
 use mathlib.Core.Bool.{Bool, true, false, not, ◌||◌, cond}
 use mathlib.Core.List.{List, [], ◌∷◌, ◌++◌}
-use mathlib.Core.Option.{Option, some, none}
+use Rattle.std.specs.Prelude.{Option, Some, None}
 use native.Mathlib.Omega.{arith}
 use borrow.Author.Tests.{lt-ltb, le-ltb, le-leb, eqb-true, eqb-false}
 use lib.Dec.{leb, ltb, eqb}
-use lib.ListN.{length}
-use Rattle.grain.specs.Lists.{any, distance}
+use lib.ListN.{length, drop, get_or}
+use Rattle.std.proofs.lemmas.List.{drop_more}
+use Rattle.std.specs.List.{list_any}
+use Rattle.grain.specs.Lists.{distance}
 use Rattle.grain.specs.Products.{first_of, is_last_crop_month}
 use Rattle.grain.specs.Spot.{is_spot}
 use Rattle.grain.specs.declared.spot.TradeDate.{TradeDate}
 use Rattle.record.specs.declared.Contract.{Contract}
 use Rattle.record.specs.Choices.{keep}
-use Rattle.record.specs.State.{Product, sheet_or, settlement_on}
+use Rattle.record.specs.State.{Product, max_contracts, sheet_or, settlement_on}
 use Rattle.record.specs.Move.{Move, move_from, moves_among, product_moves, is_trigger, is_of_last_crop_month}
 use Rattle.record.specs.Edition.{of2014}
-use Rattle.book.specs.declared.Book.{Book}
-use Rattle.book.specs.Book.{limit_in, today_in, last_in, view_product}
+use Rattle.sheets.specs.declared.sheet.Sheet.{Sheet}
+use Rattle.sheets.specs.Sheets.{entries_of, sheet_in}
+use Rattle.sheets.proofs.Rest.{counted as counted_lem}
+use Rattle.book.specs.declared.product.Product.{Product as Held}
+use Rattle.book.specs.Book.{view_held}
 use Rattle.book.proofs.SheetsIn.{sheet_contracts}
-use Rattle.ending.specs.declared.lead.Condition.{Condition}
-use Rattle.ending.specs.declared.lead.Condition.TheVariants.{OneAtInitial, TwoAtInitial, AtLeastInitial, AtExpanded}
+use Rattle.ending.specs.declared.lead.condition.Condition.{Condition}
+use Rattle.ending.specs.declared.lead.condition.Condition.TheVariants.{OneAtInitial, TwoAtInitial, AtLeastInitial, AtExpanded}
 use Rattle.ending.specs.Lead.{meets, suffice}
 use Rattle.ending.specs.Search.{count_of, count_at, more_after, count_from, are_enough_in, suffice_in}
 
@@ -51,7 +56,7 @@ enough_by (m ∷ n ∷ ms) =
     let one = counts_more m in
     let other = counts_more n in
     le-leb 2 (count_in m + (count_in n + counted ms)) (omega arith)
-    ∙ sym (ap (◌|| any is_of_last_crop_month (m ∷ n ∷ ms)) (le-leb 2 (length (m ∷ n ∷ ms)) (omega arith)))
+    ∙ sym (ap (◌|| list_any is_of_last_crop_month (m ∷ n ∷ ms)) (le-leb 2 (length (m ∷ n ∷ ms)) (omega arith)))
 
 -- a contract counts two at most
 pub at_most_two : (spot : ℕ → Bool) (p i : ℕ) (last : List Contract) (n : ℕ) (c : Contract) → count_at spot p i last n c ≤ 2
@@ -65,8 +70,13 @@ at_most_two spot p i last n c = go (spot c.month || eqb n 0) (settlement_on last
 
     go : (x : Bool) (o : Option ℕ) → cond x 0 (count_of p i c o) ≤ 2
     go true o = omega arith
-    go false none = omega arith
-    go false (some y) = some_change (eqb (distance c.settlement y) i) (is_last_crop_month p c.month)
+    go false None = omega arith
+    go false (Some y) = some_change (eqb (distance c.settlement y) i) (is_last_crop_month p c.month)
+
+-- one contract more
+pub count_next : (spot : ℕ → Bool) (p i : ℕ) (last : List Contract) (n : ℕ) (s : List Contract) (j : ℕ) (d : Contract) → j < length s
+    → count_from spot p i last n (drop j s) ≡ count_at spot p i last n (get_or s j d) + count_from spot p i last (more_after spot n (get_or s j d).month) (drop (j + 1) s)
+count_next spot p i last n s j d h = ap (count_from spot p i last n) (drop_more s j d h)
 
 -- ---- joined lists
 module _ {A : Type 0} (f : A → Bool) where
@@ -108,23 +118,23 @@ module _ (spot : ℕ → Bool) (q : Product) where
   triggers_of is_first c o = keep is_trigger (move_from q is_first c o)
 
   first_counts : (c : Contract) (o : Option ℕ) → count_of q.number q.initial_limit c o ≡ counted (triggers_of true c o)
-  first_counts c none = refl
-  first_counts c (some y) = go (eqb (distance c.settlement y) q.initial_limit) (is_last_crop_month q.number c.month) refl
+  first_counts c None = refl
+  first_counts c (Some y) = go (eqb (distance c.settlement y) q.initial_limit) (is_last_crop_month q.number c.month) refl
     where
       go : (x z : Bool) → is_last_crop_month q.number c.month ≡ z → cond x (cond z 2 1) 0 ≡ counted (cond x (move_of c y ∷ []) [])
       go true z e = rw e (omega arith)
       go false z e = refl
 
   late_counts : (c : Contract) (o : Option ℕ) → 0 ≡ counted (triggers_of false c o)
-  late_counts c none = refl
-  late_counts c (some y) = refl
+  late_counts c None = refl
+  late_counts c (Some y) = refl
 
   one_counts : (n : ℕ) (c : Contract) (o : Option ℕ)
       → cond (eqb n 0) 0 (count_of q.number q.initial_limit c o) ≡ counted (triggers_of (ltb 0 n) c o)
   one_counts n c o = go (eqb n 0) refl
     where
       go : (x : Bool) → eqb n 0 ≡ x → cond x 0 (count_of q.number q.initial_limit c o) ≡ counted (triggers_of (ltb 0 n) c o)
-      go true e = let none = eqb-true n 0 e in rw (le-ltb 0 n (omega arith)) (late_counts c o)
+      go true e = let zero = eqb-true n 0 e in rw (le-ltb 0 n (omega arith)) (late_counts c o)
       go false e = let more = eqb-false n 0 e in rw (lt-ltb 0 n (omega arith)) (first_counts c o)
 
   abbrev counts_from : ℕ → List Contract → ℕ
@@ -143,21 +153,23 @@ module _ (spot : ℕ → Bool) (q : Product) where
           let one = move_from q (ltb 0 n) c (last_of c) in
           rw (e, keep_append is_trigger one rest, counted-append (keep is_trigger one) (keep is_trigger rest), ← (one_counts n c (last_of c)), ← (later (pred n)))
 
--- ---- a product of a book
-enough_is : (b : Book) (date : TradeDate) (p : ℕ)
-    → of2014.are_enough (keep is_trigger (product_moves (is_spot date) (view_product b p)))
-    ≡ are_enough_in date p (limit_in b p).initial (today_in b p) (last_in b p)
-unfolding product_moves view_product
-enough_is b date p =
-    let q = view_product b p in
-    sym (enough_by (keep is_trigger (product_moves (is_spot date) q)))
-    ∙ ap (leb 2) (sym (count_is (is_spot date) q (first_of p) (sheet_or q.today)))
-    ∙ rw (sheet_contracts (today_in b p), sheet_contracts (last_in b p))
+-- ---- what a book holds of a product
+-- the contracts of a sheet whose count fits; where none is in there are none
+pub sheet_entries : (s : Sheet) → s.len ≤ max_contracts → sheet_or (sheet_in s) ≡ entries_of s
+sheet_entries s l = sheet_contracts s ∙ counted_lem s l
 
-pub suffices : (condition : Condition) (b : Book) (date : TradeDate) (p : ℕ)
-    → suffice condition (keep (meets condition) (product_moves (is_spot date) (view_product b p)))
-    ≡ suffice_in condition date p (limit_in b p) (today_in b p) (last_in b p)
-suffices OneAtInitial b date p = refl
-suffices TwoAtInitial b date p = enough_is b date p
-suffices AtLeastInitial b date p = refl
-suffices AtExpanded b date p = refl
+module _ (items : Held) (date : TradeDate) (p : ℕ) (today : items.today.len ≤ max_contracts) (last : items.last.len ≤ max_contracts) where
+  enough_is : of2014.are_enough (keep is_trigger (product_moves (is_spot date) (view_held items p))) ≡ are_enough_in date p items
+  unfolding product_moves view_held
+  enough_is =
+      let q = view_held items p in
+      sym (enough_by (keep is_trigger (product_moves (is_spot date) q)))
+      ∙ ap (leb 2) (sym (count_is (is_spot date) q (first_of p) (sheet_or q.today)))
+      ∙ rw (sheet_entries items.today today, sheet_entries items.last last)
+
+  pub suffices : (condition : Condition)
+      → suffice condition (keep (meets condition) (product_moves (is_spot date) (view_held items p))) ≡ suffice_in condition date p items
+  suffices OneAtInitial = refl
+  suffices TwoAtInitial = enough_is
+  suffices AtLeastInitial = refl
+  suffices AtExpanded = refl

@@ -7,11 +7,9 @@ pub mod Candidates
 pub mod Enough
 pub mod Asked
 pub mod Nexts
-pub mod Products
 pub mod Searched
 pub mod Months
-pub mod Founds
 pub mod Outstanding
-pub mod Replaced
+pub mod Items
 pub mod AfterEnd
 pub mod SoundBook

@@ -3,12 +3,13 @@ use Prim.Native.Nat.{ℕ, zero, suc, pred, ◌+◌, ◌<◌}
 use mathlib.Core.Path.{◌≡◌, refl, sym, subst, ◌∙◌, ap}
 use mathlib.Core.Bool.{Bool, true, false, not, ◌&&◌, ◌||◌, false≢true}
 use mathlib.Core.List.{List, [], ◌∷◌, ◌++◌}
-use mathlib.Core.Option.{Option, some, none}
+use Rattle.std.specs.Prelude.{Option, Some, None}
 use mathlib.Core.Logic.{⊎_elim}
 use native.Mathlib.Omega.{arith}
 use borrow.Author.Tests.{lt-ltb, le-ltb, eq-eqb, ne_eqb, ltb-true, ltb-false, eqb-true, eqb-false}
 use lib.Dec.{ltb, eqb}
-use Rattle.grain.specs.Lists.{any, is_ascending}
+use Rattle.std.specs.List.{list_any}
+use Rattle.grain.specs.Lists.{is_ascending}
 use Rattle.grain.specs.Products.{first_of}
 use Rattle.grain.proofs.Tests.{&&-left, &&-right}
 use Rattle.record.specs.declared.Contract.{Contract}
@@ -22,7 +23,7 @@ use Rattle.ending.proofs.Members.{Member, member_either}
 
 -- a move of month m meets g
 abbrev pub has_move : (Move → Bool) → ℕ → List Move → Bool
-has_move g m ms = any (λ v. eqb v.month m && g v) ms
+has_move g m ms = list_any (λ v. eqb v.month m && g v) ms
 
 -- every contract is after month m
 abbrev Above : ℕ → List Contract → Type 0
@@ -45,7 +46,7 @@ unfolding is_ascending
 ascending_rest c [] e = refl
 ascending_rest c (d ∷ s) e = &&-right (ltb c.month d.month) (is_ascending (months_of (d ∷ s))) e
 
-none_above : (m : ℕ) (s : List Contract) → Above m s → settlement_on s m ≡ none
+none_above : (m : ℕ) (s : List Contract) → Above m s → settlement_on s m ≡ None
 none_above m [] u = refl
 none_above m (c ∷ s) u = rw (ne_eqb c.month m (omega arith), none_above m s u.1)
 
@@ -62,6 +63,7 @@ ltb_pred k (suc n) = go (ltb k n) refl
     go false e = le-ltb (1 + k) (suc n) (omega (arith, ltb-false k n e)) ∙ sym e
 
 count_above : (spot : ℕ → Bool) (m : ℕ) (s : List Contract) → Above m s → count_earlier spot m s ≡ 0
+unfolding count_earlier
 count_above spot m [] u = refl
 count_above spot m (c ∷ s) u = count_late spot m c s (omega arith) ∙ count_above spot m s u.1
 
@@ -74,14 +76,14 @@ module _ (g : Move → Bool) (spot : ℕ → Bool) (q : Product) (m : ℕ) where
 
   other_month : (c : Contract) (is_first : Bool) (o : Option ℕ) (l : List Move) → (c.month ≡ m → ⊥)
       → has_move g m (move_from q is_first c o ++ l) ≡ has_move g m l
-  other_month c is_first none l h = refl
-  other_month c is_first (some y) l h = rw (ne_eqb c.month m h)
+  other_month c is_first None l h = refl
+  other_month c is_first (Some y) l h = rw (ne_eqb c.month m h)
 
   this_month : (c : Contract) (is_first : Bool) (o : Option ℕ) (l : List Move) → c.month ≡ m → has_move g m l ≡ false
       → has_move g m (move_from q is_first c o ++ l)
-      ≡ change_meets g q.number q.initial_limit q.expanded_limit m is_first (some c.settlement) o
-  this_month c is_first none l h e = e
-  this_month c is_first (some y) l h e = rw (h, eq-eqb m m refl, e) (or_false _)
+      ≡ change_meets g q.number q.initial_limit q.expanded_limit m is_first (Some c.settlement) o
+  this_month c is_first None l h e = e
+  this_month c is_first (Some y) l h e = rw (h, eq-eqb m m refl, e) (or_false _)
 
   no_move_above : (n : ℕ) (s : List Contract) → Above m s → has_move g m (moves_among q n (non_spot s)) ≡ false
   no_move_above n [] u = refl
@@ -125,7 +127,7 @@ module _ (g : Move → Bool) (spot : ℕ → Bool) (q : Product) (m : ℕ) where
             let first = count_late spot m c s (omega arith) ∙ count_above spot m s above in
             rw (first, e, v)
             (this_month c (ltb 0 n) (last_of c) (moves_among q (pred n) (non_spot s)) same (no_move_above (pred n) s above)
-            ∙ ap (λ (k : ℕ). change_meets g q.number q.initial_limit q.expanded_limit m (ltb 0 n) (some c.settlement) (settlement_on (sheet_or q.last) k)) same)
+            ∙ ap (λ (k : ℕ). change_meets g q.number q.initial_limit q.expanded_limit m (ltb 0 n) (Some c.settlement) (settlement_on (sheet_or q.last) k)) same)
         go false e false v true w later =
             let early = ltb-true c.month m w in
             rw (count_early spot m c s e early, e, v, ltb_pred (count_earlier spot m s) n)
@@ -157,8 +159,8 @@ among_number q n (c ∷ s) v d =
     (among_number q (pred n) s v)
   where
     go : (o : Option ℕ) → Member v (move_from q (ltb 0 n) c o) → v.product ≡ q.number
-    go none k = absurd k
-    go (some y) k = ⊎_elim (λ same. ap (λ (w : Move). w.product) same) (λ z. absurd z) k
+    go None k = absurd k
+    go (Some y) k = ⊎_elim (λ same. ap (λ (w : Move). w.product) same) (λ z. absurd z) k
 
 pub move_number : (spot : ℕ → Bool) (q : Product) (v : Move) → Member v (product_moves spot q) → v.product ≡ q.number
 unfolding product_moves

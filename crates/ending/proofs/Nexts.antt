@@ -1,111 +1,132 @@
--- The nearest month after a month: it is after it, and no listed month after it is nearer.
-use Prim.Native.Nat.{ℕ, zero, suc, ◌+◌, ◌-◌, ◌≤◌, ◌<◌}
-use mathlib.Core.Path.{◌≡◌, refl, sym, ◌∙◌, ap}
-use mathlib.Core.Bool.{Bool, true, false, false≢true}
-use mathlib.Core.List.{List, [], ◌∷◌}
-use mathlib.Core.Logic.{◌⊎◌, inl, inr, ⊎_elim}
-use native.Mathlib.Nat.{eq-or-lt_of_le}
+-- The nearest month after a month on the sheets of some products: it is after it, and no listed month after it is nearer.
+use Prim.Native.Nat.{ℕ, ◌≤◌, ◌<◌, min}
+use mathlib.Core.Path.{◌≡◌, refl, sym, subst}
+use mathlib.Core.Bool.{Bool, true, false, cond, false≢true}
+use mathlib.Core.List.{List, [], ◌∷◌, map}
+use mathlib.Core.Logic.{inl, inr, ⊎_elim}
+use native.Mathlib.Nat.{le_refl}
 use native.Mathlib.Omega.{arith}
-use borrow.Author.Tests.{ltb-true, ltb-false, eqb-true, eqb-false}
+use borrow.Author.Tests.{ltb-true, lt-ltb, eqb-true}
 use lib.Dec.{ltb, eqb}
-use lib.ListN.{get_or}
+use Rattle.std.specs.Prelude.{Option, Some, None, is_some}
+use Rattle.std.specs.List.{filter, filter_map, cons_option, fold, reduce}
 use Rattle.record.specs.declared.Contract.{Contract}
-use Rattle.record.specs.Choices.{is_some}
 use Rattle.record.specs.State.{settlement_on}
-use Rattle.sheets.specs.declared.Sheet.{Sheet}
-use Rattle.sheets.specs.Sheets.{contracts_of}
-use Rattle.book.specs.Book.{no_sheet}
-use Rattle.book.specs.Numbers.{numbers_from}
-use Rattle.ending.specs.Search.{sooner, next_in}
-use Rattle.ending.proofs.Products.{products_end}
+use Rattle.sheets.specs.Sheets.{entries_of}
+use Rattle.book.specs.declared.product.Product.{Product as Held}
+use Rattle.ending.specs.Search.{next_on, next_among}
+use Rattle.ending.proofs.Members.{Member}
 
--- r is a nearest month so far, with n behind it if n is after a
-abbrev pub Under : ℕ → ℕ → ℕ → Type 0
-Under a r n = a < n → (0 < r) × (r ≤ n)
+-- r is the nearest after a of the months that are Among
+abbrev pub Nearest : (ℕ → Type 0) → ℕ → Option ℕ → Type 0
+Nearest Among a None = (n : ℕ) → Among n → a < n → ⊥
+Nearest Among a (Some m) = (a < m) × ((n : ℕ) → Among n → a < n → m ≤ n)
 
-abbrev pub After : ℕ → ℕ → Type 0
-After a r = 0 < r → a < r
+-- ---- the least of a list
+least_first : (x : ℕ) (l : List ℕ) → fold min x l ≤ x
+least_first x [] = le_refl x
+least_first x (y ∷ l) = let h = least_first (min x y) l in omega arith
 
--- the new month where it is after a and nearer than r, and else r
-sooner_cases : (a r m : ℕ) (P : ℕ → Type 0) → (a < m → (r ≡ 0) ⊎ (m < r) → P m) → ((m ≤ a) ⊎ ((0 < r) × (r ≤ m)) → P r)
-    → P (sooner a r m)
-unfolding sooner
-sooner_cases a r m P new old = go (ltb a m) refl (eqb r 0) refl (ltb m r) refl
+least : (x n : ℕ) (l : List ℕ) → Member n l → fold min x l ≤ n
+least x n [] d = absurd d
+least x n (y ∷ l) d = ⊎_elim (λ same. let h = least_first (min x y) l in omega arith) (λ k. least (min x y) n l k) d
+
+least_above : (a x : ℕ) (l : List ℕ) → a < x → ((n : ℕ) → Member n l → a < n) → a < fold min x l
+least_above a x [] h u = h
+least_above a x (y ∷ l) h u =
+    let k : a < y = u y (inl refl) in
+    least_above a (min x y) l (omega arith) (λ n d. u n (inr d))
+
+nearest_of : (a : ℕ) (l : List ℕ) → ((n : ℕ) → Member n l → a < n) → Nearest (λ n. Member n l) a (reduce min l)
+nearest_of a [] u = λ n d h. d
+nearest_of a (x ∷ l) u = (
+  least_above a x l (u x (inl refl)) (λ n d. u n (inr d)),
+  λ n d h. ⊎_elim (λ same. let k = least_first x l in omega arith) (λ k. least x n l k) d,
+)
+
+-- where each of the Among has one of the list that is no farther
+abbrev Has : (ℕ → Type 0) → ℕ → List ℕ → Type 0
+Has Among a l = (n : ℕ) → Among n → a < n → (m : ℕ) × Member m l × (a < m) × (m ≤ n)
+
+nearest_by : (Among : ℕ → Type 0) (a : ℕ) (l : List ℕ) (r : Option ℕ) → Nearest (λ n. Member n l) a r → Has Among a l → Nearest Among a r
+nearest_by Among a l None near has = λ n d h. let w = has n d h in near w.0 w.1 w.2
+nearest_by Among a l (Some m) near has =
+    (near.0, λ n d h. let w = has n d h in let k : m ≤ w.0 = near.1 w.0 w.1 w.2 in let j : w.0 ≤ n = w.3 in omega arith)
+
+-- ---- of one sheet
+abbrev pub Listed : List Contract → ℕ → Type 0
+Listed s n = is_some (settlement_on s n) ≡ true
+
+abbrev months : List Contract → List ℕ
+months s = map (λ (c : Contract). c.month) s
+
+listed_month : (s : List Contract) (n : ℕ) → Listed s n → Member n (months s)
+listed_month [] n e = absurd (false≢true e)
+listed_month (c ∷ s) n e = go (eqb c.month n) refl (listed_month s n)
   where
-    go : (x : Bool) → ltb a m ≡ x → (y : Bool) → eqb r 0 ≡ y → (z : Bool) → ltb m r ≡ z → P (sooner a r m)
-    go false e y u z v = rw e (old (inl (ltb-false _ _ e)))
-    go true e true u z v = rw (e, u) (new (ltb-true _ _ e) (inl (eqb-true _ _ u)))
-    go true e false u true v = rw (e, u, v) (new (ltb-true _ _ e) (inr (ltb-true _ _ v)))
-    go true e false u false v =
-        let k : r ≡ 0 → ⊥ = eqb-false _ _ u in
-        let l : r ≤ m = ltb-false _ _ v in
-        rw (e, u, v) (old (inr (omega arith)))
+    go : (x : Bool) → eqb c.month n ≡ x → (Listed s n → Member n (months s)) → Member n (months (c ∷ s))
+    go true q later = inl (sym (eqb-true c.month n q))
+    go false q later = inr (later (rw q at e))
 
-sooner_new : (a r m : ℕ) → Under a (sooner a r m) m
-sooner_new a r m =
-    sooner_cases a r m (λ x. Under a x m) (λ h _ _. omega arith) (λ d k. ⊎_elim (λ l. absurd (omega arith)) (λ w. w) d)
+abbrev later : ℕ → List ℕ → List ℕ
+later a l = filter (λ m. ltb a m) l
 
-sooner_keep : (a r m n : ℕ) → Under a r n → Under a (sooner a r m) n
-sooner_keep a r m n u =
-    sooner_cases a r m (λ x. Under a x n)
-    (λ h d k. let w : (0 < r) × (r ≤ n) = u k in ⊎_elim (λ e. absurd (omega arith)) (λ l. omega arith) d)
-    (λ d. u)
-
-sooner-after : (a r m : ℕ) → After a r → After a (sooner a r m)
-sooner-after a r m u = sooner_cases a r m (λ x. After a x) (λ h _ _. h) (λ d. u)
-
-in_keep : (a r n : ℕ) (s : List Contract) → Under a r n → Under a (next_in a r s) n
-in_keep a r n [] u = u
-in_keep a r n (c ∷ s) u = in_keep a (sooner a r c.month) n s (sooner_keep a r c.month n u)
-
-in_all : (a r n : ℕ) (s : List Contract) → is_some (settlement_on s n) ≡ true → Under a (next_in a r s) n
-in_all a r n [] e = absurd (false≢true e)
-in_all a r n (c ∷ s) e = go (eqb c.month n) refl (in_all a (sooner a r c.month) n s)
+later_above : (a : ℕ) (l : List ℕ) (n : ℕ) → Member n (later a l) → a < n
+later_above a [] n d = absurd d
+later_above a (m ∷ l) n d = go (ltb a m) refl (later_above a l n) d
   where
-    go : (x : Bool) → eqb c.month n ≡ x
-        → (is_some (settlement_on s n) ≡ true → Under a (next_in a (sooner a r c.month) s) n)
-        → Under a (next_in a (sooner a r c.month) s) n
-    go true q later = in_keep a (sooner a r c.month) n s (rw (eqb-true c.month n q) (sooner_new a r n))
-    go false q later = later (rw q at e)
+    go : (x : Bool) → ltb a m ≡ x → (Member n (later a l) → a < n) → Member n (cond x (m ∷ later a l) (later a l)) → a < n
+    go true e rest k = ⊎_elim (λ same. let h = ltb-true a m e in omega arith) rest k
+    go false e rest k = rest k
 
-in_after : (a r : ℕ) (s : List Contract) → After a r → After a (next_in a r s)
-in_after a r [] u = u
-in_after a r (c ∷ s) u = in_after a (sooner a r c.month) s (sooner-after a r c.month u)
+later_has : (a : ℕ) (l : List ℕ) (n : ℕ) → Member n l → a < n → Member n (later a l)
+later_has a [] n d h = absurd d
+later_has a (m ∷ l) n d h = ⊎_elim (λ same. let k : a < m = omega arith in rw (lt-ltb a m k) (inl same)) (λ k. go (ltb a m) (later_has a l n k h)) d
+  where
+    go : (x : Bool) → Member n (later a l) → Member n (cond x (m ∷ later a l) (later a l))
+    go true k = inr k
+    go false k = k
 
--- the nearest month over the sheets of some products
-abbrev pub next_of : List Sheet → ℕ → ℕ → List ℕ → ℕ
-next_of ss a r [] = r
-next_of ss a r (p ∷ ps) = next_of ss a (next_in a r (contracts_of (get_or ss p no_sheet))) ps
+pub nearest_on : (a : ℕ) (s : List Contract) → Nearest (Listed s) a (next_on a s)
+unfolding next_on
+nearest_on a s =
+    nearest_by (Listed s) a (later a (months s)) (reduce min (later a (months s))) (nearest_of a (later a (months s)) (later_above a (months s)))
+    (λ n d h. (n, later_has a (months s) n (listed_month s n d) h, h, le_refl n))
 
-module _ (ss : List Sheet) where
-  abbrev sheet_at : ℕ → List Contract
-  sheet_at p = contracts_of (get_or ss p no_sheet)
+-- ---- of today's sheets of some products
+module _ (a : ℕ) where
+  abbrev nexts : List Held → List ℕ
+  nexts group = filter_map (λ (q : Held). next_on a (entries_of q.today)) group
 
-  of_keep : (a r n : ℕ) (ps : List ℕ) → Under a r n → Under a (next_of ss a r ps) n
-  of_keep a r n [] u = u
-  of_keep a r n (p ∷ ps) u = of_keep a (next_in a r (sheet_at p)) n ps (in_keep a r n (sheet_at p) u)
-
-  -- a month on the sheet of one of the products is not nearer than the next month
-  pub next_under : (a r n lo k p : ℕ) → lo ≤ p → p < lo + k → is_some (settlement_on (sheet_at p) n) ≡ true
-      → Under a (next_of ss a r (numbers_from lo k)) n
-  next_under a r n lo zero p h l e = absurd (omega arith)
-  next_under a r n lo (suc k) p h l e =
-      go (next_under a (next_in a r (sheet_at lo)) n (suc lo) k p)
+  nexts_above : (group : List Held) (n : ℕ) → Member n (nexts group) → a < n
+  nexts_above [] n d = absurd d
+  nexts_above (q ∷ group) n d = go (next_on a (entries_of q.today)) (nearest_on a (entries_of q.today)) (nexts_above group n) d
     where
-      go : (suc lo ≤ p → p < suc lo + k → is_some (settlement_on (sheet_at p) n) ≡ true
-          → Under a (next_of ss a (next_in a r (sheet_at lo)) (numbers_from (suc lo) k)) n)
-          → Under a (next_of ss a (next_in a r (sheet_at lo)) (numbers_from (suc lo) k)) n
-      go later =
-          ⊎_elim
-          (λ same. of_keep a (next_in a r (sheet_at lo)) n (numbers_from (suc lo) k) (in_all a r n (sheet_at lo) (rw same e)))
-          (λ above. later above (omega arith) e)
-          (eq-or-lt_of_le h)
+      go : (r : Option ℕ) → Nearest (Listed (entries_of q.today)) a r → (Member n (nexts group) → a < n)
+          → Member n (cons_option r (nexts group)) → a < n
+      go None near rest k = rest k
+      go (Some m) near rest k = ⊎_elim (λ same. let h : a < m = near.0 in omega arith) rest k
 
-  -- the next month is after the month
-  pub next-after : (a r : ℕ) (ps : List ℕ) → After a r → After a (next_of ss a r ps)
-  next-after a r [] u = u
-  next-after a r (p ∷ ps) u = next-after a (next_in a r (sheet_at p)) ps (in_after a r (sheet_at p) u)
+  nexts_have : (group : List Held) (q : Held) → Member q group → Has (Listed (entries_of q.today)) a (nexts group)
+  nexts_have [] q d = absurd d
+  nexts_have (w ∷ group) q d =
+      ⊎_elim (λ (same : q ≡ w). subst (λ (x : Held). Has (Listed (entries_of x.today)) a (nexts (w ∷ group))) (sym same) (λ n e h. first (next_on a (entries_of w.today)) (nearest_on a (entries_of w.today)) n e h))
+      (λ k n e h. after (next_on a (entries_of w.today)) n (nexts_have group q k n e h)) d
+    where
+      first : (r : Option ℕ) → Nearest (Listed (entries_of w.today)) a r → (n : ℕ) → Listed (entries_of w.today) n → a < n
+          → (m : ℕ) × Member m (cons_option r (nexts group)) × (a < m) × (m ≤ n)
+      first None near n e h = absurd (near n e h)
+      first (Some m) near n e h = (m, inl refl, near.0, near.1 n e h)
 
-  -- where a loop over the products of a group is through, its month is the next
-  pub next-all : (a r p hi : ℕ) (group : List ℕ) → hi ≤ p → next_of ss a 0 group ≡ next_of ss a r (numbers_from p (hi - p)) → r ≡ next_of ss a 0 group
-  next-all a r p hi group h e = sym (e ∙ ap (next_of ss a r) (products_end p hi h))
+      after : (r : Option ℕ) (n : ℕ) → (m : ℕ) × Member m (nexts group) × (a < m) × (m ≤ n)
+          → (m : ℕ) × Member m (cons_option r (nexts group)) × (a < m) × (m ≤ n)
+      after None n h = h
+      after (Some m) n h = (h.0, inr h.1, h.2, h.3)
+
+  pub nearest_among : (group : List Held) (Among : ℕ → Type 0)
+      → ((n : ℕ) → Among n → (q : Held) × Member q group × Listed (entries_of q.today) n)
+      → Nearest Among a (next_among a group)
+  unfolding next_among
+  nearest_among group Among on =
+      nearest_by Among a (nexts group) (reduce min (nexts group)) (nearest_of a (nexts group) (nexts_above group))
+      (λ n d h. let w = on n d in nexts_have group w.0 w.1 n w.2 h)

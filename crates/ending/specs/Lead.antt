@@ -1,6 +1,5 @@
 -- The leading contract of a group's products, for the condition of an event.
-use Rattle.std.specs.Prelude.{ℕ, ◌<◌, ◌≤◌, ◌≡◌, Bool, true, cond, List, [], map, eqb}
-use Rattle.std.proofs.Math.Option.{Option, some, none}
+use Rattle.std.specs.Prelude.{ℕ, ◌<◌, ◌≤◌, ◌≡◌, Bool, true, cond, List, [], map, eqb, Option}
 use Rattle.grain.specs.Lists.{is_ascending}
 use Rattle.grain.specs.Products.{product_count}
 use Rattle.grain.specs.Spot.{is_spot}
@@ -14,10 +13,8 @@ use Rattle.record.specs.End.{leading}
 use Rattle.sheets.specs.Sheets.{contracts_of, months_of}
 use Rattle.book.specs.declared.Book.{Book}
 use Rattle.book.specs.Book.{today_in, last_in, view_product}
-use Rattle.ending.specs.declared.lead.Condition.{Condition}
-use Rattle.ending.specs.declared.lead.Condition.TheVariants.{OneAtInitial, TwoAtInitial, AtLeastInitial, AtExpanded}
-use Rattle.ending.specs.declared.lead.Found.{Found}
-use Rattle.ending.specs.declared.lead.Found.TheVariants.{At, Nobody}
+use Rattle.ending.specs.declared.lead.condition.Condition.{Condition}
+use Rattle.ending.specs.declared.lead.condition.Condition.TheVariants.{OneAtInitial, TwoAtInitial, AtLeastInitial, AtExpanded}
 
 abbrev pub meets : Condition → Move → Bool
 meets OneAtInitial m = is_trigger m
@@ -39,11 +36,6 @@ candidates condition ms = let l = keep (meets condition) ms in cond (suffice con
 -- the leading contract from the moves of each product
 abbrev pub lead_for : Condition → List (List Move) → Option Lead
 lead_for condition mss = leading (concat_map (candidates condition) mss)
-
--- what the search answers for a leading contract or none
-abbrev pub found_as : Option Lead → Found
-found_as none = Nobody
-found_as (some l) = At l
 
 -- the moves of each of some products of a book
 unfoldable pub moves_of : Book → TradeDate → List ℕ → List (List Move)

@@ -1,25 +1,24 @@
 // What refuses an end: 1, 2, 12 in this order.
 ghost use Rattle.std.specs.Prelude.{◌≡◌};
-ghost use Rattle.record.specs.Choices.{or_else};
 ghost use Rattle.record.specs.Record.{end, refusal};
 ghost use Rattle.book.specs.Book.{view};
+ghost use Rattle.book.specs.Calls.{refusal_in};
 
 use book::Book;
-use record::refusals::{SHEET_OUTSTANDING, UNSOUND, WRONG_PHASE};
+use grain::Refusal;
 
-// 0 where nothing refuses it.
-pub(crate) fn refusal_of(b: Book) -> u32
-    ensures { result ≡ or_else (refusal (view b) end) 0 }
+#[tactic(auto, using(crate::proofs::Outstanding::end_refusal))]
+pub(crate) fn refusal_of(b: &Book) -> Result<(), Refusal>
+    ensures { refusal_in result ≡ refusal (view b.now) end }
 {
     if !b.is_sound() {
-        return UNSOUND;
+        return Err(Refusal::Unsound);
     }
     if !b.is_open {
-        return WRONG_PHASE;
+        return Err(Refusal::WrongPhase);
     }
-    let todays = b.today;
-    if !book::are_all_in(todays) {
-        return SHEET_OUTSTANDING;
+    if !b.are_all_in() {
+        return Err(Refusal::SheetOutstanding);
     }
-    0
+    Ok(())
 }

@@ -1,6 +1,6 @@
 // The level and mark of each group after its event.
 ghost use Rattle.std.specs.Prelude.{◌≡◌, ℕ, ◌<◌, get_or, ◌&&◌};
-ghost use Rattle.grain.specs.Lists.{any};
+ghost use Rattle.std.specs.List.{list_any};
 ghost use Rattle.record.specs.Edition.{conditions_of};
 ghost use Rattle.record.specs.Move.{is_at_expanded};
 ghost use Rattle.record.specs.History.{products_of};
@@ -9,21 +9,18 @@ ghost use Rattle.book.specs.Book.{no_standing};
 ghost use Rattle.ending.specs.Lead.{moves_of, Readable};
 ghost use Rattle.ending.specs.Ends.{standing_after, standing_of_end};
 
-use crate::events::leading_in;
-use crate::lead::{Condition, Found};
+use crate::lead::Condition;
+use crate::moves::GroupMoves;
 use book::{Book, Standing};
 use grain::TradeDate;
-use record::{Event, GROUP_COUNT, GroupEvent};
+use record::{Event, GROUP_COUNT};
+use std::array;
 
 // Held with a move of exactly E, which `reached` says, is marked; every other event clears the mark.
 fn standing_after(event: Event, reached: bool) -> Standing
     ensures { result ≡ standing_after event reached }
 {
     match event {
-        Event::Quiet => Standing {
-            expanded: false,
-            marked: false,
-        },
         Event::Triggered(_) => Standing {
             expanded: true,
             marked: false,
@@ -32,55 +29,34 @@ fn standing_after(event: Event, reached: bool) -> Standing
             expanded: true,
             marked: reached,
         },
-        Event::Reverted => Standing {
-            expanded: false,
-            marked: false,
-        },
-        Event::Raised(_) => Standing {
-            expanded: false,
-            marked: false,
-        },
+        Event::Quiet | Event::Reverted | Event::Raised(_) => Standing::default(),
     }
 }
 
-// One of the group moved by exactly E.
-fn is_at_expanded(b: Book, date: TradeDate, g: usize) -> bool
-    requires { (g < group_count) × Readable b }
-    ensures { result ≡ any (any is_at_expanded) (moves_of b date (products_of g)) }
-{
-    let Found::At(_) = leading_in(b, date, Condition::AtExpanded, g) else {
-        return false;
-    };
-    true
-}
-
-// A move of exactly E is looked for only in a held group, of an edition that has marks: nothing else can set one.
-fn standing_in(b: Book, date: TradeDate, event: Event, g: usize) -> Standing
-    requires { (g < group_count) × Readable b }
-    ensures { result ≡ standing_after event ((conditions_of b.edition).has_marks && any (any is_at_expanded) (moves_of b date (products_of g))) }
-{
-    if !book::has_marks(b.edition) {
-        return standing_after(event, false);
+impl GroupMoves<'_> {
+    // One of the group moved by exactly E.
+    fn is_at_expanded(&self) -> bool
+        ensures { result ≡ list_any (list_any is_at_expanded) (moves_of self.now.book.now self.now.date (products_of self.now.group)) }
+    {
+        self.leading(Condition::AtExpanded).is_some()
     }
-    let Event::Held(_) = event else {
-        return standing_after(event, false);
-    };
-    standing_after(event, is_at_expanded(b, date, g))
+
+    // A move of exactly E is looked for only in a held group, of an edition that has marks: nothing else can set one.
+    fn standing(&self, event: Event) -> Standing
+        ensures { result ≡ standing_after event ((conditions_of self.now.book.now.edition).has_marks && list_any (list_any is_at_expanded) (moves_of self.now.book.now self.now.date (products_of self.now.group))) }
+    {
+        let can_mark = book::has_marks(self.book.edition) && matches!(event, Event::Held(_));
+        standing_after(event, can_mark && self.is_at_expanded())
+    }
 }
 
-pub(crate) fn standings_after(
-    b: Book,
+pub(crate) fn standings_of(
+    book: &Book,
     date: TradeDate,
-    events: [GroupEvent; GROUP_COUNT],
+    events: &[Event; GROUP_COUNT],
 ) -> [Standing; GROUP_COUNT]
-    requires { Readable b }
-    ensures { (g : ℕ) → g < group_count → get_or result g no_standing ≡ standing_of_end b date events g }
+    requires { Readable book.now }
+    ensures { (g : ℕ) → g < group_count → get_or result g no_standing ≡ standing_of_end book.now date events.now g }
 {
-    let mut standings = b.standings;
-    for g in 0..GROUP_COUNT {
-        let one = events[g];
-        let event = one.event;
-        standings[g] = standing_in(b, date, event, g);
-    }
-    standings
+    array::from_fn(|group| GroupMoves::of(book, date, group).standing(events[group]))
 }

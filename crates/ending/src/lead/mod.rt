@@ -1,77 +1,72 @@
 // The leading contract of a group: of those that meet an event's condition, the nearest month, then the lowest product number.
-ghost use Rattle.std.specs.Prelude.{◌≡◌, ◌≤◌, ◌-◌};
-ghost use Rattle.grain.specs.Products.{product_count};
-ghost use Rattle.book.specs.Numbers.{numbers_from};
-ghost use Rattle.ending.specs.Lead.{found_as, lead_for, moves_of, Readable};
-ghost use Rattle.ending.specs.Search.{AreEnough};
+ghost use Rattle.std.specs.Prelude.{◌≡◌, ◌+◌, ◌≤◌, ◌<◌, length, slice_range};
+ghost use Rattle.record.specs.History.{products_of};
+ghost use Rattle.record.specs.State.{group_count};
+ghost use Rattle.book.specs.Numbers.{products_before};
+ghost use Rattle.ending.specs.Lead.{lead_for, moves_of};
+ghost use Rattle.ending.specs.Search.{is_met, FirstMet};
 
-use book::Book;
-pub(crate) use enough::enough_for;
-use grain::{PRODUCT_COUNT, TradeDate};
-use months::next_in;
-use moves::meets_in;
+use crate::moves::{GroupMoves, ProductMoves};
+use book::{Book, Product};
+pub(crate) use condition::Condition;
+use months::next_month;
 use record::Lead;
 
+mod condition;
 mod enough;
 mod months;
-mod moves;
 
-// What a move has to be for an event.
-#[derive(Clone, Copy)]
-pub enum Condition {
-    // Exactly I, within the first N.
-    OneAtInitial,
-    // The same, of a product that has two such, or one of its last crop-year month.
-    TwoAtInitial,
-    // I or more.
-    AtLeastInitial,
-    // Exactly E.
-    AtExpanded,
-}
-
-#[derive(Clone, Copy)]
-pub enum Found {
-    At(Lead),
-    Nobody,
-}
-
-// The leading contract of products lo to hi, hi not among them; `enough` tells of each whether its moves suffice.
-pub(crate) fn leading(
-    b: Book,
-    date: TradeDate,
-    condition: Condition,
-    enough: [bool; PRODUCT_COUNT],
-    lo: usize,
-    hi: usize,
-) -> Found
-    requires { (lo ≤ hi) × (hi ≤ product_count) × Readable b × AreEnough b date condition lo hi enough }
-    ensures { result ≡ found_as (lead_for condition (moves_of b date (numbers_from lo (hi - lo)))) }
+// The products of a group, which stand together.
+#[tactic(auto, using(book::proofs::ProductsBefore::before_next, book::proofs::ProductsBefore::before_small))]
+fn products_of(b: &Book, g: usize) -> &[Product]
+    requires { g < group_count }
+    ensures part { result.now ≡ slice_range b.now.products (products_before g) (products_before (g + 1)) }
+    ensures within { products_before (g + 1) ≤ length b.now.products }
 {
-    // In the date's month every contract is spot: the first turn only finds the next month.
-    let mut month = date.month;
-    let mut found = Found::Nobody;
-    'search: loop {
-        // The nearest month after this one; 0 is none.
-        let mut next: u32 = 0;
-        for p in lo..hi {
-            let current = b.today[p];
-            let last = b.last[p];
-            let limit = b.limits[p];
-            if meets_in(
-                enough[p], condition, p as u32, limit, current, last, month, date,
-            ) {
-                found = Found::At(Lead {
-                    month,
-                    product: p as u32,
-                });
-                break 'search;
+    let first = book::products_before(g);
+    let past = book::products_before(g + 1);
+    &b.products[first..past]
+}
+
+impl GroupMoves<'_> {
+    // The first product of the group whose contract of a month meets the condition.
+    #[tactic(auto, using(book::proofs::ProductsBefore::before_small))]
+    fn first_met(&self, condition: Condition, month: u32) -> Option<u32>
+        ensures { FirstMet (is_met condition self.now.date self.now.book.now month) (products_before self.now.group) (products_before (self.now.group + 1)) result }
+    {
+        let first = book::products_before(self.group);
+        let past = book::products_before(self.group + 1);
+        // By number, which the lead names.
+        for p in first..past {
+            let product = p as u32;
+            let moves = ProductMoves {
+                items: &self.book.products[p],
+                date: self.date,
+                product,
+            };
+            if moves.meet(condition, month) {
+                return Some(product);
             }
-            next = next_in(current, month, next);
         }
-        if next == 0 {
-            break 'search;
-        }
-        month = next;
+        None
     }
-    found
+
+    pub(crate) fn leading(&self, condition: Condition) -> Option<Lead>
+        ensures { result ≡ lead_for condition (moves_of self.now.book.now self.now.date (products_of self.now.group)) }
+    {
+        let products = products_of(self.book, self.group);
+        // In the date's month every contract is spot.
+        let mut month = self.date.month;
+        // Each turn starts from the month that the one before found.
+        while let Some(next) = next_month(products, month) {
+            if let Some(product) = self.first_met(condition, next) {
+                return Some(Lead {
+                    month: next,
+                    product,
+                });
+            }
+            month = next;
+        }
+        None
+    }
 }

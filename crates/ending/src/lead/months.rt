@@ -1,36 +1,28 @@
-// The next month that a product has on its sheet.
-ghost use Rattle.std.specs.Prelude.{◌≡◌, ◌≤◌};
-ghost use Rattle.record.specs.State.{max_contracts};
-ghost use Rattle.sheets.specs.Sheets.{contracts_of};
-ghost use Rattle.ending.specs.Search.{sooner, next_in};
+// The months that a group's contracts have on its sheets.
+ghost use Rattle.std.specs.Prelude.{◌≡◌};
+ghost use Rattle.sheets.specs.Sheets.{entries_of};
+ghost use Rattle.ending.specs.Search.{next_on, next_among};
 
+use book::Product;
 use sheets::Sheet;
 
-fn sooner_of(after: u32, best: u32, month: u32) -> u32
-    ensures { result ≡ sooner after best month }
+// The nearest month on a sheet after a month.
+#[tactic(auto, unfolding(crate::specs::Search::next_on))]
+fn next_on(sheet: &Sheet, after: u32) -> Option<u32>
+    ensures { result ≡ next_on after (entries_of sheet.now) }
 {
-    if month <= after {
-        return best;
-    }
-    if best == 0 {
-        return month;
-    }
-    if month < best {
-        return month;
-    }
-    best
+    sheet
+        .entries()
+        .iter()
+        .map(|c| c.month)
+        .filter(|month| after < *month)
+        .min()
 }
 
-// The nearest month after a month on a sheet, or best where that is nearer; 0 is none.
-pub(crate) fn next_in(s: Sheet, after: u32, best: u32) -> u32
-    requires { s.len ≤ max_contracts }
-    ensures { result ≡ next_in after best (contracts_of s) }
+// The nearest on the sheets of today.
+#[tactic(auto, unfolding(crate::specs::Search::next_among))]
+pub(crate) fn next_month(group: &[Product], after: u32) -> Option<u32>
+    ensures { result ≡ next_among after group.now }
 {
-    let n = s.len;
-    let mut next = best;
-    for i in 0..n {
-        let c = s.contracts[i];
-        next = sooner_of(after, next, c.month);
-    }
-    next
+    group.iter().filter_map(|q| next_on(&q.today, after)).min()
 }

@@ -1,0 +1,54 @@
+use native.Mathlib.Omega.{arith}
+use Prim.Native.Nat.{◌+◌, ◌<◌}
+use mathlib.Core.Path.{sym}
+use Rattle.book.specs.Numbers.{products_before}
+use Rattle.book.proofs.ProductsBefore.{before_next, before_small, stand_together}
+use Rattle.ending.proofs.Nexts.{Nearest}
+use Rattle.ending.proofs.Searched.{met, Among, Ahead, all_spot, nearest_in, ahead_next, seen_next, none_leads, this_leads}
+use Rattle.ending.proofs.moves.GroupMoves.leading.Goals as goal
+use Rattle.ending.proofs.moves.GroupMoves.leading.Goals.{After-next_month}
+
+-- the next month after a month, over the products of the group
+
+near : (c : After-next_month) → Nearest (Among c.args.self.now.book.now (products_before c.args.self.now.group) (products_before (c.args.self.now.group + 1))) c.loop-next.month c.next_month.result
+near c = nearest_in c.args.self.now.book.now (products_before c.args.self.now.group) (products_before (c.args.self.now.group + 1)) c.loop-next.month _ c.products_of-products.ensures.within (rw c.products_of-products.ensures.part at c.next_month.ensures)
+
+ahead : (c : After-next_month)
+    → let m = c.args.self.now in
+    Ahead (met m.book.now m.date c.args.condition) (products_before m.group) (products_before (m.group + 1)) c.next_month.result
+ahead c =
+    let m = c.args.self.now in
+    ahead_next m.book.now m.date c.args.condition _ _ (before_next m.group m.numbered) (before_small m.group m.numbered) m.readable c.loop-next.month _ (near c) c.loop-next.invariant
+
+pub loop-next-init : goal.loop-next-init
+loop-next-init c = all_spot c.args.self.now.book.now c.args.self.now.date c.args.condition _ _
+
+pub returns-in-Some-first_met : goal.returns-in-Some-first_met
+returns-in-Some-first_met c =
+    let a = c.args in
+    let m = a.self.now in
+    let found = rw c.in-Some-first_met.is at c.first_met.ensures in
+    let clear = rw c.in-Some.is at (ahead (goal.at.returns-in-Some-first_met c).After-next_month) in
+    rw (← (stand_together m.group m.numbered))
+    (sym (this_leads m.book.now m.date a.condition _ _ (before_next m.group m.numbered) (before_small m.group m.numbered) m.readable c.in-Some.next c.in-Some-first_met.product clear found.0 found.1 found.3 found.2))
+
+pub loop-next-smaller : goal.loop-next-smaller
+loop-next-smaller c =
+    let later : c.loop-next.month < c.in-Some.next = (rw c.in-Some.is at (near (goal.at.loop-next-smaller c).After-next_month)).0 in
+    omega arith
+
+pub loop-next-preserved : goal.loop-next-preserved
+loop-next-preserved c =
+    let a = c.args in
+    let m = a.self.now in
+    let here = rw c.in_default-first_met.is at c.first_met.ensures in
+    let clear = rw c.in-Some.is at (ahead (goal.at.loop-next-preserved c).After-next_month) in
+    seen_next _ _ _ c.in-Some.next clear here
+
+pub returns : goal.returns
+returns c =
+    let a = c.args in
+    let m = a.self.now in
+    let clear = rw c.in_default.is at (ahead (goal.at.returns c).After-next_month) in
+    rw (← (stand_together m.group m.numbered))
+    (sym (none_leads m.book.now m.date a.condition _ _ (before_next m.group m.numbered) (before_small m.group m.numbered) m.readable clear))
