@@ -1,15 +1,14 @@
 -- What a check promises, whatever the book, product, size, month and price.
-use Rattle.std.specs.Prelude.{ℕ}
-use Rattle.record.specs.Record.{check, Answer, refused, checked}
+use Rattle.std.specs.Prelude.{ℕ, Result}
+use Rattle.grain.specs.declared.check.Verdict.{Verdict}
+use Rattle.grain.specs.declared.refusals.Refusal.{Refusal}
+use Rattle.record.specs.Record.{check, Answer, checked}
 use Rattle.book.specs.declared.Book.{Book}
-use Rattle.book.specs.Calls.{Responds}
-use Rattle.checking.specs.declared.Checked.{Checked}
-use Rattle.checking.specs.declared.Checked.TheVariants.{Is, Refused}
+use Rattle.book.specs.Calls.{Responds, answer_as}
 
-abbrev pub checked_as : Checked → Answer
-checked_as (Is v) = checked v
-checked_as (Refused n) = refused n
+abbrev pub checked_as : Result Verdict Refusal → Answer
+checked_as r = answer_as checked r
 
--- a check returns no book: it is lent by value, and stays as it is
-abbrev pub Checks : Book → ℕ → ℕ → ℕ → ℕ → Checked → Type 0
+-- a check only reads the book, which stays as it is
+abbrev pub Checks : Book → ℕ → ℕ → ℕ → ℕ → Result Verdict Refusal → Type 0
 Checks b p size month price r = Responds b (check p size month price) (checked_as r) b

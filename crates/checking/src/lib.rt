@@ -4,27 +4,17 @@
 ghost use Rattle.checking.specs.Checks.{Checks};
 
 use book::Book;
-use grain::Verdict;
+use grain::{Refusal, Verdict};
 
 mod judged;
 mod terms;
 
-pub use terms::{Offered, Terms};
+pub use terms::Terms;
 
-#[derive(Clone, Copy)]
-pub enum Checked {
-    Is(Verdict),
-    // The number of the refusal.
-    Refused(u32),
-}
-
-pub fn check(b: Book, product: u32, size: u32, month: u32, price: u32) -> Checked
-    ensures { Checks b product size month price result }
+// Numbers, as a caller in C passes them: every u32 is answered.
+pub fn check(b: &Book, product: u32, size: u32, month: u32, price: u32) -> Result<Verdict, Refusal>
+    ensures { Checks b.now product size month price result }
 {
-    let offered = Terms::of(b, product, size);
-    if offered.refusal != 0 {
-        return Checked::Refused(offered.refusal);
-    }
-    let on = offered.terms;
-    on.judged(month, price)
+    let terms = Terms::of(b, product, size)?;
+    terms.judged(month, price)
 }
