@@ -1,18 +1,14 @@
 -- The conversion of a book from the edition of 2014 to that of 2023: nothing but its edition changes.
-use Rattle.std.specs.Prelude.{ℕ, Bool, ◌&&◌, List, [], ◌∷◌, eqb}
-use Rattle.std.proofs.Math.Option.{Option}
-use Rattle.grain.specs.Lists.{any}
+use Rattle.std.specs.Prelude.{ℕ, Bool, ◌&&◌, List, [], ◌∷◌, eqb, Option}
+use Rattle.std.specs.List.{list_any}
+pub use Rattle.grain.specs.Refusals.{group_expanded}
 use Rattle.record.specs.Refusals.{Test, when, wrong_phase}
 use Rattle.record.specs.State.{Group, Record}
 use Rattle.record.specs.Sound.{is_expanded}
 use Rattle.record.specs.Record.{refusal_by}
 
--- conversion of a book under 2014 with an expanded group
-abbrev pub group_expanded : ℕ
-group_expanded = 18
-
 abbrev pub has_expanded : List Group → Bool
-has_expanded gs = any (λ g. is_expanded g.level) gs
+has_expanded gs = list_any (λ g. is_expanded g.level) gs
 
 -- the refusals after 1, in their order; the expanded level means another thing under each edition
 unfoldable pub conversion_tests : Record → List Test
