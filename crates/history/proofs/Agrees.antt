@@ -1,8 +1,5 @@
 -- A book that holds what the Record holds after a list of calls, however it came by it: what is known of it, and of two of them.
-use Prim.Native.Nat.{ℕ, ◌<◌}
-use mathlib.Core.Path.{◌≡◌, ap, sym, ◌∙◌}
-use mathlib.Core.List.{List, ◌++◌}
-use mathlib.Core.Option.{some, none}
+use Rattle.std.proofs.Common.{◌≡◌, ap, sym, ◌∙◌, ℕ, ◌<◌, List, ◌++◌, Some, None}
 use Rattle.grain.specs.Check.{span_in, is_within}
 use Rattle.grain.specs.declared.check.Span.{Span}
 use Rattle.grain.specs.declared.check.Verdict.{Verdict}
@@ -15,13 +12,13 @@ use Rattle.record.specs.Theorems.{after, history_of, Together, BetweenLimits, Re
 use Rattle.record.proofs.Proved.{theorems}
 use Rattle.record.proofs.GroupTable.{group_small}
 use Rattle.book.specs.declared.Book.{Book}
-use Rattle.book.specs.Book.{view_product, view_group, view_common, view}
+use Rattle.book.specs.Book.{view_group, view_common, view, view_held}
 use Rattle.book.proofs.Views.{group_is, product_is}
 use Rattle.history.specs.Whole.{SameProduct, SameContents}
 
 -- ---- what a book holds, part by part
 product_same : (z : Book) (p : ℕ) → p < 8 → SameProduct z (view z) p
-unfolding view_product view_group
+unfolding view_held view_group
 product_same z p l =
     let q = sym (product_is z p l) in
     let g = sym (group_is z (group_of p) (group_small p l)) in
@@ -67,12 +64,12 @@ module _ (s : Start) (cs : List Call) (z : Book) (is : view z ≡ after s cs) wh
       theorems.coupled s cs p q i j m n x y v w e (rw (← is) a) (rw (← is) b) (answered p i m x ∙ h) (answered q j n y ∙ k)
 
   pub resent : (p size month price : ℕ) (v : Verdict) (allowed : Span) → answer_in z p size month price ≡ checked v
-      → span_in v ≡ some allowed → Resent (view z) p size month allowed
+      → span_in v ≡ Some allowed → Resent (view z) p size month allowed
   resent p size month price v allowed e has =
       rw is (theorems.resent s cs p size month price v allowed (answered p size month price ∙ e) has)
 
 -- ---- a book, and one after further calls
-pub stays_free : (s : Start) → founding_refusal s ≡ none → (cs ds : List Call) (y z : Book) → view y ≡ after s cs → view z ≡ after s (cs ++ ds)
+pub stays_free : (s : Start) → founding_refusal s ≡ None → (cs ds : List Call) (y z : Book) → view y ≡ after s cs → view z ≡ after s (cs ++ ds)
     → (p q i j month x w : ℕ) (v : Verdict) → answer_in y p i month x ≡ checked Free → answer_in z q j month w ≡ checked v → v ≡ Free
 stays_free s accepted cs ds y z one other p q i j month x w v e h =
     theorems.stays_free s accepted cs ds p q i j month x w v (answered s cs y one p i month x ∙ e) (answered s (cs ++ ds) z other q j month w ∙ h)
@@ -86,7 +83,7 @@ module _ (s : Start) (g : ℕ) (cs ds : List Call) (y z : Book) (one : view y �
   pub same_group : group_at (view y) g ≡ group_at (view z) g
   same_group = rw (one, other) (theorems.same_group s g cs ds same)
 
-  pub same_checks : founding_refusal s ≡ none → (p size month price : ℕ) → group_of p ≡ g → answer_in y p size month price ≡ answer_in z p size month price
+  pub same_checks : founding_refusal s ≡ None → (p size month price : ℕ) → group_of p ≡ g → answer_in y p size month price ≡ answer_in z p size month price
   same_checks accepted p size month price e =
       sym (answered s cs y one p size month price)
       ∙ theorems.same_checks s accepted g cs ds same p size month price e

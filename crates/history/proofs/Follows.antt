@@ -1,6 +1,5 @@
 -- A list of calls follows the Record: its answers and the book that it leaves are the Record's.
-use mathlib.Core.Path.{◌≡◌, refl}
-use mathlib.Core.List.{List, ◌∷◌}
+use Rattle.std.proofs.Common.{◌≡◌, refl, List, ◌∷◌}
 use Rattle.record.specs.Record.{Call, Answer, state_after, answers}
 use Rattle.book.specs.declared.Book.{Book}
 use Rattle.book.specs.Book.{view}
@@ -14,13 +13,12 @@ pub record Follows (b : Book) (cs : List Call) (rs : List Answer) (z : Book) : T
 one_more : {b y z : Book} {c : Call} {a : Answer} {cs : List Call} {rs : List Answer}
     → Responds b c a y → Follows y cs rs z → Follows b (c ∷ cs) (a ∷ rs) z
 unfolding answers state_after
-one_more {b} {y} {z} {c} {a} {cs} {rs} s f =
-    record { answered = rw (← s.state) (cc (s.answer, f.answered)); contents = rw (← s.state) f.contents }
+one_more s f = record { answered = rw (← s.state) (cc (s.answer, f.answered)); contents = rw (← s.state) f.contents }
 
 pub follows : {b z : Book} {cs : List Call} {rs : List Answer} → Trace b cs rs z → Follows b cs rs z
 unfolding answers state_after
 follows done = record { answered = refl; contents = refl }
-follows (opens r s t) = one_more s.responds (follows t)
+follows (opens r s t) = one_more s (follows t)
 follows (files r s t) = one_more s (follows t)
-follows (ends r s t) = one_more s.responds (follows t)
+follows (ends r s t) = one_more s (follows t)
 follows (checks r s t) = one_more s (follows t)

@@ -1,9 +1,7 @@
 -- The theorem over whole lists of calls, proved.
-use Prim.Native.Nat.{ℕ}
-use mathlib.Core.Path.{◌≡◌, refl, ap, sym, ◌∙◌}
-use mathlib.Core.Bool.{true, not}
-use mathlib.Core.List.{List, ◌++◌}
-use mathlib.Core.Option.{none}
+use Rattle.std.proofs.Common.{◌≡◌, refl, ap, sym, ◌∙◌, ℕ, true, not, List, ◌++◌, None, Result, Ok, Err}
+use Rattle.grain.specs.declared.refusals.Refusal.{Refusal}
+use Rattle.grain.proofs.RefusalNumbers.{refusal_numbered, numbered_back}
 use Rattle.grain.specs.Lists.{every}
 use Rattle.grain.specs.Check.{is_within}
 use Rattle.grain.specs.declared.check.Verdict.{Verdict}
@@ -17,9 +15,6 @@ use Rattle.record.specs.Theorems.{after, history_of, is_refusal, has_raised, Bet
 use Rattle.record.proofs.Proved.{theorems}
 use Rattle.book.specs.declared.Book.{Book}
 use Rattle.book.specs.Book.{view}
-use Rattle.book.proofs.FoundingNumbers.{accepted_by}
-use Rattle.checking.specs.declared.Checked.{Checked}
-use Rattle.checking.specs.declared.Checked.TheVariants.{Is, Refused}
 use Rattle.checking.specs.Checks.{checked_as, Checks}
 use Rattle.history.specs.Whole.{Run, WholeHistory}
 use Rattle.history.proofs.Agrees as agrees
@@ -27,11 +22,11 @@ use Rattle.history.proofs.Follows.{follows}
 
 -- ---- one list
 module _ (s : Start) (cs : List Call) (rs : List Answer) (z : Book) (run : Run s cs rs z) where
-  accepted : founding_refusal s ≡ none
-  accepted = accepted_by s run.fresh.refusal run.founds.refusal run.accepted
+  accepted : founding_refusal s ≡ None
+  accepted = run.founds.0
 
-  fresh_is : view run.fresh.book ≡ founded s
-  fresh_is = run.founds.accepted accepted
+  fresh_is : view run.fresh ≡ founded s
+  fresh_is = run.founds.1
 
   answers_are : rs ≡ answers (founded s) cs
   answers_are = (follows run.trace).answered ∙ ap (λ (r : Record). answers r cs) fresh_is
@@ -54,28 +49,32 @@ module _ (s : Start) (cs : List Call) (rs : List Answer) (z : Book) (run : Run s
 coupled : (s : Start) (cs : List Call) (rs : List Answer) (z : Book) → Run s cs rs z
     → (p q i j m n x y : ℕ) (v w : Verdict) → group_of p ≡ group_of q
     → BetweenLimits (view z) p m x → BetweenLimits (view z) q n y
-    → Checks z p i m x (Is v) → Checks z q j n y (Is w) → is_within v ≡ is_within w
+    → Checks z p i m x (Ok v) → Checks z q j n y (Ok w) → is_within v ≡ is_within w
 coupled s cs rs z run p q i j m n x y v w e a b h k =
     agrees.coupled s cs z (contents_are s cs rs z run) p q i j m n x y v w e a b (sym h.answer) (sym k.answer)
 
 stays_free : (s : Start) (cs ds : List Call) (rs ts : List Answer) (y z : Book) → Run s cs rs y → Run s (cs ++ ds) ts z
-    → (p q i j month x w : ℕ) (v : Verdict) → Checks y p i month x (Is Free) → Checks z q j month w (Is v) → v ≡ Free
+    → (p q i j month x w : ℕ) (v : Verdict) → Checks y p i month x (Ok Free) → Checks z q j month w (Ok v) → v ≡ Free
 stays_free s cs ds rs ts y z one other p q i j month x w v h k =
     agrees.stays_free s (accepted s cs rs y one) cs ds y z (contents_are s cs rs y one) (contents_are s (cs ++ ds) ts z other) p q i j month x w v
     (sym h.answer) (sym k.answer)
 
 -- ---- two lists
-uncheck : Answer → Checked
-uncheck (refused n) = Refused n
-uncheck (opened l) = Is Free
-uncheck filed = Is Free
-uncheck (ended l) = Is Free
-uncheck (checked v) = Is v
+-- the result of the check that is answered so; no other call's answer is asked for
+abbrev result_from : Answer → Result Verdict Refusal
+result_from (refused n) = Err (refusal_numbered n)
+result_from (opened l) = Ok Free
+result_from filed = Ok Free
+result_from (ended l) = Ok Free
+result_from (checked v) = Ok v
 
-unchecked : (c : Checked) → uncheck (checked_as c) ≡ c
-unfolding uncheck
-unchecked (Is v) = refl
-unchecked (Refused n) = refl
+result_back : (r : Result Verdict Refusal) → result_from (checked_as r) ≡ r
+result_back (Ok v) = refl
+result_back (Err r) = ap Err (numbered_back r)
+
+-- two checks that answer the same have the same result
+checked_same : (r s : Result Verdict Refusal) → checked_as r ≡ checked_as s → r ≡ s
+checked_same r s e = sym (result_back r) ∙ ap result_from e ∙ result_back s
 
 module _ (s : Start) (g : ℕ) (cs ds : List Call) (rs ts : List Answer) (y z : Book)
     (one : Run s cs rs y) (other : Run s ds ts z) (same : SameFor g (kept cs rs) (kept ds ts)) where
@@ -88,11 +87,11 @@ module _ (s : Start) (g : ℕ) (cs ds : List Call) (rs ts : List Answer) (y z : 
   same_group : group_at (view y) g ≡ group_at (view z) g
   same_group = agrees.same_group s g cs ds y z (contents_are s cs rs y one) (contents_are s ds ts z other) histories
 
-  same_checks : (p size month price : ℕ) (v w : Checked) → group_of p ≡ g
+  same_checks : (p size month price : ℕ) (v w : Result Verdict Refusal) → group_of p ≡ g
       → Checks y p size month price v → Checks z p size month price w → v ≡ w
   same_checks p size month price v w e h k =
       let both = agrees.same_checks s g cs ds y z (contents_are s cs rs y one) (contents_are s ds ts z other) histories (accepted s cs rs y one) p size month price e in
-      sym (unchecked v) ∙ ap uncheck (h.answer ∙ both ∙ sym k.answer) ∙ unchecked w
+      checked_same v w (h.answer ∙ both ∙ sym k.answer)
 
 pub whole_history : WholeHistory
 whole_history =

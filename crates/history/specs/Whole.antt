@@ -1,6 +1,6 @@
 -- Whole lists of openings, sheets, ends and checks, refused ones included, from a fresh book. proofs/Proved.antt has the proofs.
-use Rattle.std.specs.Prelude.{ℕ, ◌<◌, ◌≡◌, true, not, List, ◌++◌}
-use Rattle.std.proofs.Math.Option.{some}
+use Rattle.std.specs.Prelude.{ℕ, ◌<◌, ◌≡◌, true, not, List, ◌++◌, Some, Result, Ok}
+use Rattle.grain.specs.declared.refusals.Refusal.{Refusal}
 use Rattle.grain.specs.Lists.{every}
 use Rattle.grain.specs.Products.{product_count}
 use Rattle.grain.specs.Check.{span_in, is_within}
@@ -14,28 +14,23 @@ use Rattle.record.specs.Record.{Call, Answer, answers}
 use Rattle.record.specs.History.{kept, SameFor}
 use Rattle.record.specs.Theorems.{after, is_refusal, has_raised, Together, BetweenLimits, Resent}
 use Rattle.sheets.specs.Sheets.{sheet_in}
-use Rattle.windows.specs.Windows.{window_of}
 use Rattle.book.specs.declared.Book.{Book}
-use Rattle.book.specs.declared.founding.Founding.{Founding}
-use Rattle.book.specs.Book.{limit_in, standing_in, today_in, last_in, level_of, opened_of, view}
+use Rattle.book.specs.Book.{limit_in, window_of, standing_in, today_in, last_in, level_of, opened_of, view}
 use Rattle.book.specs.Founding.{Founds}
-use Rattle.checking.specs.declared.Checked.{Checked}
-use Rattle.checking.specs.declared.Checked.TheVariants.{Is}
 use Rattle.checking.specs.Checks.{Checks}
 use Rattle.history.specs.Trace.{Trace}
 
 -- A list of calls on a fresh book, which is what an accepted founding returns; their answers, and the book that they leave.
 pub record Run (s : Start) (cs : List Call) (rs : List Answer) (z : Book) : Type 0 where
-  pub fresh : Founding
-  pub founds : Founds s fresh
-  pub accepted : fresh.refusal ≡ 0
-  pub trace : Trace fresh.book cs rs z
+  pub fresh : Book
+  pub founds : Founds s (Ok fresh)
+  pub trace : Trace fresh cs rs z
 
 -- what a book holds of a product is what a Record holds of it
 pub record SameProduct (z : Book) (r : Record) (p : ℕ) : Type 0 where
   pub initial_limit : (limit_in z p).initial ≡ (product_in (group_at r (group_of p)) p).initial_limit
   pub expanded_limit : (limit_in z p).expanded ≡ (product_in (group_at r (group_of p)) p).expanded_limit
-  pub window : window_of z.windows p ≡ (product_in (group_at r (group_of p)) p).window
+  pub window : window_of z p ≡ (product_in (group_at r (group_of p)) p).window
   pub today : sheet_in (today_in z p) ≡ (product_in (group_at r (group_of p)) p).today
   pub last : sheet_in (last_in z p) ≡ (product_in (group_at r (group_of p)) p).last
   pub level : level_of (standing_in z (group_of p)).expanded ≡ (group_at r (group_of p)).level
@@ -70,16 +65,16 @@ pub record WholeHistory : Type 0 where
       (s : Start) (cs : List Call) (rs : List Answer) (z : Book) → Run s cs rs z
       → (p q i j m n x y : ℕ) (v w : Verdict) → group_of p ≡ group_of q
       → BetweenLimits (view z) p m x → BetweenLimits (view z) q n y
-      → Checks z p i m x (Is v) → Checks z q j n y (Is w) → is_within v ≡ is_within w
+      → Checks z p i m x (Ok v) → Checks z q j n y (Ok w) → is_within v ≡ is_within w
   -- an order that is sent again at an end of the span that its check showed is within, and so are those between, and no others
   pub resent :
       (s : Start) (cs : List Call) (rs : List Answer) (z : Book) → Run s cs rs z
-      → (p size month price : ℕ) (v : Verdict) (allowed : Span) → Checks z p size month price (Is v) → span_in v ≡ some allowed
+      → (p size month price : ℕ) (v : Verdict) (allowed : Span) → Checks z p size month price (Ok v) → span_in v ≡ Some allowed
       → Resent (view z) p size month allowed
   -- a contract month that a check found free is free in every later check that is answered, of any product and price
   pub stays_free :
       (s : Start) (cs ds : List Call) (rs ts : List Answer) (y z : Book) → Run s cs rs y → Run s (cs ++ ds) ts z
-      → (p q i j month x w : ℕ) (v : Verdict) → Checks y p i month x (Is Free) → Checks z q j month w (Is v) → v ≡ Free
+      → (p q i j month x w : ℕ) (v : Verdict) → Checks y p i month x (Ok Free) → Checks z q j month w (Ok v) → v ≡ Free
   -- two lists with the same edition and founding limits that agree on the accepted openings and ends and on one group's sheets of each day:
   -- the same day is open after both, or none
   pub same_day :
@@ -93,5 +88,5 @@ pub record WholeHistory : Type 0 where
   pub same_checks :
       (s : Start) (g : ℕ) (cs ds : List Call) (rs ts : List Answer) (y z : Book)
       → Run s cs rs y → Run s ds ts z → SameFor g (kept cs rs) (kept ds ts)
-      → (p size month price : ℕ) (v w : Checked) → group_of p ≡ g
+      → (p size month price : ℕ) (v w : Result Verdict Refusal) → group_of p ≡ g
       → Checks y p size month price v → Checks z p size month price w → v ≡ w
