@@ -1,12 +1,16 @@
 -- A tally that takes one more check is sound, and not full.
-use mathlib.Core.Path.{◌≡◌, refl}
+use Prim.Native.Nat.{ℕ}
+use mathlib.Core.Path.{◌≡◌, refl, sym}
 use mathlib.Core.Bool.{Bool, true, false, not, cond}
 use lib.Dec.{eqb}
 use native.Mathlib.Omega.{arith}
 use borrow.Author.Tests.{eqb-true, eqb-false}
+use Rattle.std.specs.Prelude.{Option, Some, None, is_some}
 use Rattle.grain.specs.Refusals.{unsound}
+use Rattle.grain.specs.declared.refusals.Refusal.{Refusal}
+use Rattle.grain.proofs.RefusalNumbers.{number_positive}
 use Rattle.tally.specs.declared.Tally.{Tally}
-use Rattle.tally.specs.Tally.{sum_of, is_sound_tally, is_full, tally_full, tally_refusal}
+use Rattle.tally.specs.Tally.{sum_of, is_sound_tally, is_full, tally_full, refusal_number, tally_refusal}
 
 pub record Takes (t : Tally) : Type 0 where
   pub sound : t.asked ≡ sum_of t
@@ -21,3 +25,12 @@ taking t e = go (eqb t.asked (sum_of t)) (eqb t.asked 4294967295) refl refl e
     go true false p q h = record { sound = eqb-true _ _ p; room = eqb-false _ _ q }
     go true true p q h = let z : ⊥ = omega arith in absurd z
     go false y p q h = let z : ⊥ = omega arith in absurd z
+
+-- with no refusal the number is 0, and with one it is not
+pub none_refuses : (o : Option Refusal) (n : ℕ) → refusal_number o ≡ n → is_some o ≡ false → n ≡ 0
+none_refuses None n e h = sym e
+none_refuses (Some r) n e h = let z : ◌≡◌ {A = Bool} true false = h in cc
+
+pub one_refuses : (o : Option Refusal) (n : ℕ) → refusal_number o ≡ n → is_some o ≡ true → eqb n 0 ≡ false
+one_refuses None n e h = let z : ◌≡◌ {A = Bool} false true = h in cc
+one_refuses (Some r) n e h = rw (sym e) (number_positive r)

@@ -7,8 +7,8 @@ use lib.Dec.{eqb}
 use native.Mathlib.Omega.{arith}
 use borrow.Author.Tests.{eqb-true, eq-eqb}
 use Rattle.tally.specs.declared.Tally.{Tally}
-use Rattle.tally.specs.declared.Kind.{Kind}
-use Rattle.tally.specs.declared.Kind.TheVariants.{Free, Within, Below, Above, Refused}
+use Rattle.tally.specs.declared.kinds.Kind.{Kind}
+use Rattle.tally.specs.declared.kinds.Kind.TheVariants.{Free, Within, Below, Above, Refused}
 use Rattle.tally.specs.Tally.{tally_full, sum_of, is_sound_tally, is_full, tally_refusal, one_more, counted}
 use Rattle.tally.specs.Through.{TalliedCall, Through, done, asks, how_many, same_kind, tallied_answer, tally_after, is_counted, is_of}
 

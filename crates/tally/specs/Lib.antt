@@ -1,2 +1,3 @@
 pub mod Tally
 pub mod Through
+pub mod Words

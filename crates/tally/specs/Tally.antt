@@ -1,15 +1,13 @@
 -- A tally: when it refuses a check, and what it is after one that it takes.
-use Rattle.std.specs.Prelude.{ℕ, ◌+◌, Bool, not, cond, eqb}
-use Rattle.grain.specs.Refusals.{unsound}
+use Rattle.std.specs.Prelude.{ℕ, ◌+◌, ◌≡◌, Bool, not, cond, eqb, Option, Some, None, Result, Ok, Err}
+use Rattle.grain.specs.Refusals.{unsound, number_of}
+pub use Rattle.grain.specs.Refusals.{tally_full}
+use Rattle.grain.specs.declared.refusals.Refusal.{Refusal}
 use Rattle.grain.specs.declared.check.Verdict.{Verdict}
 use Rattle.grain.specs.declared.check.Verdict.TheVariants as verdict
 use Rattle.tally.specs.declared.Tally.{Tally}
-use Rattle.tally.specs.declared.Kind.{Kind}
-use Rattle.tally.specs.declared.Kind.TheVariants.{Free, Within, Below, Above, Refused}
-
--- the tally is full
-abbrev pub tally_full : ℕ
-tally_full = 15
+use Rattle.tally.specs.declared.kinds.Kind.{Kind}
+use Rattle.tally.specs.declared.kinds.Kind.TheVariants.{Free, Within, Below, Above, Refused}
 
 -- of natural numbers: it does not wrap
 abbrev pub sum_of : Tally → ℕ
@@ -28,11 +26,26 @@ tally_refusal t = cond (not (is_sound_tally t)) unsound (cond (is_full t) tally_
 abbrev pub takes : Tally → Bool
 takes t = eqb (tally_refusal t) 0
 
+-- the number of a refusal, or 0
+abbrev pub refusal_number : Option Refusal → ℕ
+refusal_number None = 0
+refusal_number (Some r) = number_of r
+
+-- the result is the refusal with this number
+abbrev pub IsRefusedWith : ℕ → Result Verdict Refusal → Type 0
+IsRefusedWith n (Ok v) = ⊥
+IsRefusedWith n (Err r) = number_of r ≡ n
+
 abbrev pub kind_of_verdict : Verdict → Kind
 kind_of_verdict verdict.Free = Free
 kind_of_verdict (verdict.Within s) = Within
 kind_of_verdict (verdict.Below s) = Below
 kind_of_verdict (verdict.Above s) = Above
+
+-- what an answer is counted as
+abbrev pub kind_of : Result Verdict Refusal → Kind
+kind_of (Ok v) = kind_of_verdict v
+kind_of (Err r) = Refused
 
 -- one more asked, and one more of the kind
 abbrev pub one_more : Tally → Kind → Tally

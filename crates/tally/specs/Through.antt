@@ -2,8 +2,8 @@
 use Rattle.std.specs.Prelude.{ℕ, ◌+◌, ◌≡◌, Bool, true, false, not, cond, ◌&&◌, List, [], ◌∷◌, map, eqb}
 use Rattle.grain.specs.Refusals.{unsound}
 use Rattle.tally.specs.declared.Tally.{Tally}
-use Rattle.tally.specs.declared.Kind.{Kind}
-use Rattle.tally.specs.declared.Kind.TheVariants.{Free, Within, Below, Above, Refused}
+use Rattle.tally.specs.declared.kinds.Kind.{Kind}
+use Rattle.tally.specs.declared.kinds.Kind.TheVariants.{Free, Within, Below, Above, Refused}
 use Rattle.tally.specs.Tally.{tally_full, is_sound_tally, is_full, tally_refusal, takes, counted}
 
 -- a call that checks through a tally

@@ -1,74 +1,55 @@
 // The counts of a tally: whether it takes one more check, and one more check.
-ghost use Rattle.std.specs.Prelude.{◌≡◌};
-ghost use Rattle.tally.specs.Tally.{sum_of, tally_refusal, one_more, counted as counted_in};
+ghost use Rattle.std.specs.Prelude.{◌≡◌, ◌≢◌};
+ghost use Rattle.tally.specs.Tally.{refusal_number, sum_of, tally_refusal, one_more, counted};
 
-use crate::{Kind, TALLY_FULL, Tally};
-use grain::refusals::UNSOUND;
+use crate::{Kind, Tally};
+use grain::Refusal;
 
-// The most that a count of 32 bits holds.
-const MOST: u64 = 4294967295;
-
-// Five counts of 32 bits each: in 64 bits their sum does not wrap.
-fn sum_of(t: Tally) -> u64
-    ensures { result ≡ sum_of t }
-{
-    (t.free as u64) + (t.within as u64) + (t.below as u64) + (t.above as u64) + (t.refused as u64)
-}
-
-// The number with which a tally refuses every check, or 0.
-pub fn refusal(t: Tally) -> u32
-    ensures { result ≡ tally_refusal t }
-{
-    let sum = sum_of(t);
-    let asked = t.asked as u64;
-    if asked != sum {
-        return UNSOUND;
+impl Tally {
+    // Five counts of 32 bits each: in 64 bits their sum does not wrap.
+    fn sum(&self) -> u64
+        ensures { result ≡ sum_of self.now }
+    {
+        let allowed = (self.free as u64) + (self.within as u64);
+        let beyond = (self.below as u64) + (self.above as u64);
+        allowed + beyond + (self.refused as u64)
     }
-    if asked == MOST {
-        return TALLY_FULL;
-    }
-    0
-}
 
-fn one_more(t: Tally, kind: Kind) -> Tally
-    requires { tally_refusal t ≡ 0 }
-    ensures { result ≡ one_more t kind }
-{
-    let mut u = t;
-    u.asked = u.asked + 1;
-    match kind {
-        Kind::Free => {
-            u.free = u.free + 1;
+    // Why it refuses every check, where it does.
+    pub fn refusal(&self) -> Option<Refusal>
+        ensures { refusal_number result ≡ tally_refusal self.now }
+    {
+        let asked = self.asked as u64;
+        if asked != self.sum() {
+            return Some(Refusal::Unsound);
         }
-        Kind::Within => {
-            u.within = u.within + 1;
+        if self.asked == u32::MAX {
+            return Some(Refusal::TallyFull);
         }
-        Kind::Below => {
-            u.below = u.below + 1;
-        }
-        Kind::Above => {
-            u.above = u.above + 1;
-        }
-        Kind::Refused => {
-            u.refused = u.refused + 1;
+        None
+    }
+
+    fn count_one(&mut self, kind: Kind)
+        requires sound { self.old.asked ≡ sum_of self.old }
+        requires room { self.old.asked ≢ u32.MAX }
+        ensures { self.new ≡ one_more self.old kind }
+    {
+        self.asked += 1;
+        match kind {
+            Kind::Free => self.free += 1,
+            Kind::Within => self.within += 1,
+            Kind::Below => self.below += 1,
+            Kind::Above => self.above += 1,
+            Kind::Refused => self.refused += 1,
         }
     }
-    u
-}
 
-// A tally that refuses stays as it is.
-pub fn counted(t: Tally, kind: Kind) -> Tally
-    ensures { result ≡ counted_in t kind }
-{
-    if refusal(t) != 0 {
-        return t;
+    // One more asked and one more of the kind. A tally that refuses stays as it is.
+    pub fn count(&mut self, kind: Kind)
+        ensures { self.new ≡ counted self.old kind }
+    {
+        if self.refusal().is_none() {
+            self.count_one(kind);
+        }
     }
-    one_more(t, kind)
-}
-
-// The thin function: one more asked and one more of the kind, in place.
-pub fn count(t: &mut Tally, kind: Kind)
-    ensures { t.new ≡ counted_in t.old kind }
-{
-    *t = counted(*t, kind);
 }

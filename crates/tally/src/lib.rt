@@ -1,19 +1,14 @@
 // A gateway's tally: six counts of the checks through it, lent by &mut. It knows no book.
 #![tactic(auto)]
 
-ghost use Rattle.std.specs.Prelude.{◌≡◌};
-ghost use Rattle.tally.specs.Tally.{kind_of_verdict};
-
-use grain::Verdict;
-
 mod counts;
+mod kinds;
+mod through;
+mod words;
 
-pub use counts::{count, counted, refusal};
+pub use kinds::Kind;
 
-// The refusal of a check through a full tally.
-pub const TALLY_FULL: u32 = 15;
-
-#[derive(Clone, Copy)]
+#[derive(Clone, Copy, Debug, Default, PartialEq, Eq)]
 pub struct Tally {
     // The number of checks; the sum of the other five.
     pub asked: u32,
@@ -22,25 +17,4 @@ pub struct Tally {
     pub below: u32,
     pub above: u32,
     pub refused: u32,
-}
-
-// What a check is counted as.
-#[derive(Clone, Copy)]
-pub enum Kind {
-    Free,
-    Within,
-    Below,
-    Above,
-    Refused,
-}
-
-pub fn kind_of_verdict(verdict: Verdict) -> Kind
-    ensures { result ≡ kind_of_verdict verdict }
-{
-    match verdict {
-        Verdict::Free => Kind::Free,
-        Verdict::Within(_) => Kind::Within,
-        Verdict::Below(_) => Kind::Below,
-        Verdict::Above(_) => Kind::Above,
-    }
 }

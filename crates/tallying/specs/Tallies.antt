@@ -4,8 +4,8 @@ use Rattle.record.specs.Record.{check, Answer, refused, opened, filed, ended, ch
 use Rattle.book.specs.declared.Book.{Book}
 use Rattle.book.specs.Book.{view}
 use Rattle.tally.specs.declared.Tally.{Tally}
-use Rattle.tally.specs.declared.Kind.{Kind}
-use Rattle.tally.specs.declared.Kind.TheVariants.{Refused}
+use Rattle.tally.specs.declared.kinds.Kind.{Kind}
+use Rattle.tally.specs.declared.kinds.Kind.TheVariants.{Refused}
 use Rattle.tally.specs.Tally.{tally_refusal, takes, kind_of_verdict, counted}
 
 -- what an answer is counted as: a check is answered by a verdict or a refusal
@@ -21,7 +21,7 @@ abbrev pub book_answer : Book → ℕ → ℕ → ℕ → ℕ → Answer
 book_answer b p size month price = (respond (view b) (check p size month price)).answer
 
 -- 15 and a tally's 1 are the tally's own; every other answer is the book's, and is counted, the book's own 1 too.
--- The book is lent by value, and stays as it is.
+-- The book is lent to read only, and stays as it is.
 pub record Tallies (b : Book) (t : Tally) (p size month price : ℕ) (a : Answer) (after : Tally) : Type 0 where
   pub answer : a ≡ cond (takes t) (book_answer b p size month price) (refused (tally_refusal t))
   pub tally : after ≡ counted t (kind_of (book_answer b p size month price))

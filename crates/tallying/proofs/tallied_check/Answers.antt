@@ -1,25 +1,33 @@
-use Rattle.std.proofs.Common.{◌≡◌, refl, ap, cond, Bool, true, false}
-use Rattle.checking.specs.Checks.{checked_as}
-use Rattle.record.specs.Record.{Answer, refused}
+use Rattle.std.proofs.Common.{rules, ◌≡◌, refl, ℕ, true, false, Result, Ok, Err}
+use Rattle.grain.specs.declared.check.Verdict.{Verdict}
+use Rattle.grain.specs.declared.refusals.Refusal.{Refusal}
+use Rattle.record.specs.Record.{refused}
+use Rattle.book.specs.declared.Book.{Book}
+use Rattle.checking.specs.Checks.{checked_as, Checks}
 use Rattle.tally.specs.declared.Tally.{Tally}
-use Rattle.tally.specs.Tally.{tally_refusal, takes, one_more, counted}
-use Rattle.tallying.specs.Tallies.{kind_of, book_answer}
+use Rattle.tally.specs.Tally.{tally_refusal, takes, counted, IsRefusedWith}
+use Rattle.tally.specs.Tally as tally
+use Rattle.tally.proofs.Answered.{answered, tallied}
+use Rattle.tallying.specs.Tallies.{kind_of, book_answer, Tallies}
 use Rattle.tallying.proofs.tallied_check.Goals as goal
 
--- a tally that takes the check counts the book's answer; one that refuses stays as it is, whatever it is asked to count
-counts : (t : Tally) (said a : Answer) → said ≡ cond (takes t) a (refused (tally_refusal t))
-    → counted t (kind_of said) ≡ counted t (kind_of a)
-unfolding counted
-counts t said a e = go (takes t) refl
-  where
-    go : (x : Bool) → takes t ≡ x → cond (takes t) (one_more t (kind_of said)) t ≡ cond (takes t) (one_more t (kind_of a)) t
-    go true is = let same = rw is at e in rw is (ap (λ (s : Answer). one_more t (kind_of s)) same)
-    go false is = rw is
+same_kind : (r : Result Verdict Refusal) → kind_of (checked_as r) ≡ tally.kind_of r
+same_kind (Ok v) = refl
+same_kind (Err e) = refl
+
+-- t and u are the tally before and after
+tallies : (b : Book) (t u : Tally) (p size month price : ℕ) (r : Result Verdict Refusal)
+    → (takes t ≡ true → Checks b p size month price r × (u ≡ counted t (tally.kind_of r)))
+    → (takes t ≡ false → IsRefusedWith (tally_refusal t) r × (u ≡ t)) → Tallies b t p size month price (checked_as r) u
+tallies b t u p size month price r taken turned =
+    let is = book_answer b p size month price in record {
+      answer = answered checked_as refused (λ x. refl) kind_of same_kind t u r is (λ e. ((taken e).0.answer, (taken e).1)) turned;
+      tally = tallied checked_as refused (λ x. refl) kind_of same_kind t u r is (λ e. ((taken e).0.answer, (taken e).1)) turned;
+    }
 
 pub returns : goal.returns
 returns c =
     let a = c.args in
-    let answer = book_answer a.b a.product a.size a.month a.price in record {
-      answer = c.answer-r.ensures;
-      tally = rw (c.count.ensures, c.kind_of-kind.ensures) (counts a.t.now (checked_as c.answer-r.result) answer c.answer-r.ensures);
-    }
+    let s = c.through.ensures in
+    tallies a.b.now a.tally.now c.through.new.self a.product a.size a.month a.price c.through.result
+    (λ e. let w = s.taken e in (rw w.0 c.check.ensures, rw w.0 w.1)) s.refused

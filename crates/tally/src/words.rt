@@ -1,0 +1,28 @@
+// A tally as the six words of include/botskhela.h, in the order of its fields. Any six words are a tally.
+ghost use Rattle.std.specs.Prelude.{◌≡◌};
+ghost use Rattle.tally.specs.Words.{tally_in, words_of_tally};
+
+use crate::Tally;
+
+impl From<[u32; 6]> for Tally {
+    ghost from_gives = { λ words tally. tally ≡ tally_in words };
+
+    fn from(words: [u32; 6]) -> Tally {
+        Tally {
+            asked: words[0],
+            free: words[1],
+            within: words[2],
+            below: words[3],
+            above: words[4],
+            refused: words[5],
+        }
+    }
+}
+
+impl From<Tally> for [u32; 6] {
+    ghost from_gives = { λ tally words. words ≡ words_of_tally tally };
+
+    fn from(t: Tally) -> [u32; 6] {
+        [t.asked, t.free, t.within, t.below, t.above, t.refused]
+    }
+}
