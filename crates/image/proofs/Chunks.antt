@@ -1,85 +1,73 @@
 -- The words of a list, and the list in words: the part of each element, and that the one undoes the other.
-use Prim.Native.Nat.{ℕ, zero, suc, ◌+◌, ◌-◌, ◌*◌, ◌<◌, ◌≤◌}
-use mathlib.Core.Path.{◌≡◌, refl, sym, ◌∙◌, ap}
-use mathlib.Core.List.{List, [], ◌∷◌, ◌++◌}
-use native.Mathlib.Nat.{mul-suc, mul-zero, add_comm, add-sub_cancel_left, le_of_suc-le-suc, not-suc-le-zero}
-use native.Mathlib.Omega.{arith}
-use lib.ListN.{length, get_or, take, drop, length-append}
-use lib.Seq.{drop-drop, take_at, drop_at}
+use Rattle.std.proofs.Common.{ℕ, ◌+◌, ◌-◌, ◌*◌, ◌<◌, ◌≤◌, ◌≡◌, refl, sym, ◌∙◌, ap, List, [], ◌∷◌, ◌++◌, length, get_or, map, take, arith}
+use Rattle.std.specs.List.{All}
+use Rattle.std.proofs.lemmas.List.{take_all, take_more}
+use Rattle.std.proofs.lemmas.List.Elements.{All-head, All-tail}
+use mathlib.Core.List.{append-nil, append_assoc}
+use native.Mathlib.Nat.{mul-suc, mul-zero, add_comm, mul_comm, add-sub_cancel_left}
+use native.Mathlib.Numerals.{add-one}
+use lib.ListN.{length-append}
+use lib.Seq.{take_at, drop_at}
 use borrow.Rule.Slice.PartMut.{put_mid}
 use Rattle.image.specs.Words.{flat, chunks}
-use Rattle.image.proofs.Toward.{Toward, toward_part, toward_end}
+use Rattle.image.proofs.Begun.{Begun, begun, begun_next, begun_all}
 
--- the words after those of one element more
-drop_more : (k p : ℕ) (ws : List ℕ) → drop (k * suc p) ws ≡ drop (k * p) (drop k ws)
-drop_more k p ws = rw (mul-suc k p, add_comm (k * p) k) (sym (drop-drop (k * p) k ws))
+module _ {A : Type 0} (words : A → List ℕ) where
+  flat-append : (l m : List A) → flat words (l ++ m) ≡ flat words l ++ flat words m
+  unfolding flat
+  flat-append [] m = refl
+  flat-append (a ∷ l) m = rw (flat-append l m) (sym (append_assoc (words a) (flat words l) (flat words m)))
 
-module _ {A : Type 0} where
-  module _ (k : ℕ) (of : List ℕ → A) where
-    pub chunks_long : (n : ℕ) (ws : List ℕ) → length (chunks k of n ws) ≡ n
-    unfolding chunks
-    chunks_long zero ws = refl
-    chunks_long (suc n) ws = ap suc (chunks_long n (drop k ws))
+  flat_more : (l : List A) (i : ℕ) (d : A) → i < length l → flat words (take (i + 1) l) ≡ flat words (take i l) ++ words (get_or l i d)
+  unfolding flat
+  flat_more l i d h = ap (flat words) (take_more l i d h) ∙ flat-append (take i l) (get_or l i d ∷ []) ∙ ap (λ r. flat words (take i l) ++ r) (append-nil (words (get_or l i d)))
 
-    chunk_at : (n : ℕ) (ws : List ℕ) (p : ℕ) (d : A) → p < n → of (take k (drop (k * p) ws)) ≡ get_or (chunks k of n ws) p d
-    unfolding chunks
-    chunk_at zero ws p d l = absurd (not-suc-le-zero l)
-    chunk_at (suc n) ws zero d l = rw (mul-zero k)
-    chunk_at (suc n) ws (suc p) d l = rw (drop_more k p ws) (chunk_at n (drop k ws) p d (le_of_suc-le-suc l))
+  module _ (k : ℕ) where
+    -- each has k words
+    abbrev pub Sized : List A → Type 0
+    Sized l = All (λ a. length (words a) ≡ k) l
 
-    -- as a loop lends it
-    pub chunk_lent : (n : ℕ) (ws : List ℕ) (p : ℕ) (d : A) → p < n
-        → of (take (k * p + k - k * p) (drop (k * p) ws)) ≡ get_or (chunks k of n ws) p d
-    chunk_lent n ws p d l = rw (add-sub_cancel_left (k * p) k) (chunk_at n ws p d l)
+    -- a loop that writes the words of one element in each turn
+    pub put_start : (was : List ℕ) → Begun was (flat words []) (k * 0) was
+    unfolding flat
+    put_start was = rw (mul-zero k) (begun was)
 
-  module _ (words : A → List ℕ) (k : ℕ) (d : A) where
-    -- each of the first p has k words
-    abbrev pub Sized : List A → ℕ → Type 0
-    Sized l p = (q : ℕ) → q < p → length (words (get_or l q d)) ≡ k
+    pub put_next : (was : List ℕ) (l : List A) (i : ℕ) (d : A) (out zs : List ℕ) → i < length l
+        → Begun was (flat words (take i l)) (k * i) out → zs ≡ words (get_or l i d) → length (words (get_or l i d)) ≡ k
+        → Begun was (flat words (take (i + 1) l)) (k * (i + 1)) (put_mid (k * i) (k * i + k - k * i) out zs)
+    put_next was l i d out zs h b is long =
+        rw (add-sub_cancel_left (k * i) k, flat_more l i d h, add-one, mul-suc k i)
+        (begun_next was (flat words (take i l)) (k * i) k out zs (words (get_or l i d)) b is long)
 
-    sized_tail : (a : A) (l : List A) (p : ℕ) → Sized (a ∷ l) (suc p) → Sized l p
-    sized_tail a l p e q h = e (suc q) (omega arith)
+    pub put_end : (was : List ℕ) (l : List A) (i : ℕ) (out : List ℕ) → length l ≡ i → length was ≡ i * k
+        → Begun was (flat words (take i l)) (k * i) out → out ≡ flat words l
+    put_end was l i out long all b =
+        let whole : length l ≤ i = omega arith in
+        begun_all was (flat words (take i l)) (k * i) out b (all ∙ mul_comm i k) ∙ ap (flat words) (take_all i l whole)
 
-    pub flat_long : (l : List A) → Sized l (length l) → length (flat words l) ≡ k * length l
+    pub flat_long : (l : List A) → Sized l → length (flat words l) ≡ k * length l
     unfolding flat
     flat_long [] e = rw (mul-zero k)
     flat_long (a ∷ l) e =
         length-append (words a) (flat words l)
-        ∙ rw (e zero (omega arith), flat_long l (sized_tail a l (length l) e), mul-suc k (length l)) (add_comm k (k * length l))
+        ∙ rw (All-head (λ a. length (words a) ≡ k) a l e, flat_long l (All-tail (λ a. length (words a) ≡ k) a l e), mul-suc k (length l)) (add_comm k (k * length l))
 
-    flat-part : (l : List A) (p : ℕ) → p < length l → Sized l (suc p) → take k (drop (k * p) (flat words l)) ≡ words (get_or l p d)
-    unfolding flat
-    flat-part [] p h e = absurd (not-suc-le-zero h)
-    flat-part (a ∷ l) zero h e = rw (mul-zero k) (take_at (words a) (flat words l) k (e zero (omega arith)))
-    flat-part (a ∷ l) (suc p) h e =
-        rw (drop_more k p (words a ++ flat words l), drop_at (words a) (flat words l) k (e zero (omega arith)))
-        (flat-part l p (le_of_suc-le-suc h) (sized_tail a l (suc p) e))
-
-    -- a turn of a loop that writes the words of one element more
-    pub put_next : (n : ℕ) (l : List A) (p : ℕ) (out zs : List ℕ) → length l ≡ n → p < n → k * p + k ≤ k * n → Sized l (suc p)
-        → Toward (k * n) (flat words l) (k * p) out → zs ≡ words (get_or l p d)
-        → Toward (k * n) (flat words l) (k * (p + 1)) (put_mid (k * p) (k * p + k - k * p) out zs)
-    put_next n l p out zs long h fits e t is =
-        let in_list : p < length l = rw long h in
-        toward_part (k * n) (flat words l) k p out zs t fits (ap length is ∙ e p (omega arith)) (is ∙ sym (flat-part l p in_list e))
-
-    pub flat_sized : (n : ℕ) (l : List A) → length l ≡ n → Sized l n → length (flat words l) ≡ k * n
-    flat_sized n l long e = flat_long l (rw long e) ∙ ap (λ m. k * m) long
-
-    pub put_end : (n : ℕ) (l : List A) (p : ℕ) (out : List ℕ) → length l ≡ n → k * n ≤ k * p → Sized l n
-        → Toward (k * n) (flat words l) (k * p) out → out ≡ flat words l
-    put_end n l p out long h e t =
-        toward_end (k * n) (flat words l) (flat_sized n l long e) (k * p) out t h
+    pub flat_sized : (n : ℕ) (l : List A) → length l ≡ n → Sized l → length (flat words l) ≡ k * n
+    flat_sized n l long e = flat_long l e ∙ ap (λ m. k * m) long
 
     -- the list of the words of a list
-    chunks_flat : (of : List ℕ → A) (l : List A) → Sized l (length l) → ((q : ℕ) → q < length l → of (words (get_or l q d)) ≡ get_or l q d)
-        → chunks k of (length l) (flat words l) ≡ l
+    chunks_flat : (of : List ℕ → A) (l : List A) → Sized l → All (λ a. of (words a) ≡ a) l → chunks k of (length l) (flat words l) ≡ l
     unfolding chunks flat
     chunks_flat of [] e back = refl
     chunks_flat of (a ∷ l) e back =
-        let one = e zero (omega arith) in
-        rw (take_at (words a) (flat words l) k one, drop_at (words a) (flat words l) k one, back zero (omega arith), chunks_flat of l (sized_tail a l (length l) e) (λ q h. back (suc q) (omega arith)))
+        let one = All-head (λ a. length (words a) ≡ k) a l e in
+        rw (take_at (words a) (flat words l) k one, drop_at (words a) (flat words l) k one, All-head (λ a. of (words a) ≡ a) a l back)
+        (ap (λ m. a ∷ m) (chunks_flat of l (All-tail (λ a. length (words a) ≡ k) a l e) (All-tail (λ a. of (words a) ≡ a) a l back)))
 
-    pub chunks_back : (of : List ℕ → A) (n : ℕ) (l : List A) → length l ≡ n → Sized l n → ((q : ℕ) → q < n → of (words (get_or l q d)) ≡ get_or l q d)
-        → chunks k of n (flat words l) ≡ l
-    chunks_back of n l long e back = ap (λ m. chunks k of m (flat words l)) (sym long) ∙ chunks_flat of l (rw long e) (rw long back)
+    pub chunks_back : (of : List ℕ → A) (n : ℕ) (l : List A) → length l ≡ n → Sized l → All (λ a. of (words a) ≡ a) l → chunks k of n (flat words l) ≡ l
+    chunks_back of n l long e back = ap (λ m. chunks k of m (flat words l)) (sym long) ∙ chunks_flat of l e back
+
+pub flat-map : {A B : Type 0} (words : B → List ℕ) (f : A → B) (l : List A) → flat words (map f l) ≡ flat (λ a. words (f a)) l
+unfolding flat
+flat-map words f [] = refl
+flat-map words f (a ∷ l) = ap (λ r. words (f a) ++ r) (flat-map words f l)

@@ -1,7 +1,7 @@
-pub mod Toward
-pub mod Sets
 pub mod Begun
 pub mod Chunks
+pub mod Made
+pub mod Bits
 pub mod Lengths
 pub mod Back
 pub mod Puts

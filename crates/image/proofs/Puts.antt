@@ -1,9 +1,9 @@
 -- A book and the answers behind it, written over any words: the image that is left, and that all of it is read back.
-use Prim.Native.Nat.{ℕ, ◌*◌, ◌≤◌}
-use mathlib.Core.Path.{◌≡◌, sym, ◌∙◌, ap}
+use Prim.Native.Nat.{ℕ, ◌+◌, ◌*◌, ◌≤◌}
+use mathlib.Core.Path.{◌≡◌, refl, sym, ◌∙◌, ap}
 use mathlib.Core.List.{List, [], ◌++◌, append_assoc, append-nil}
 use native.Mathlib.Omega.{arith}
-use lib.ListN.{length, drop, length-drop}
+use lib.ListN.{length, replicate, drop, length-drop}
 use lib.Seq.{take_all, length-take-le}
 use borrow.Rule.Slice.PartMut.{put_mid}
 use Rattle.record.specs.State.{group_count}
@@ -64,18 +64,20 @@ module _ (ws : List ℕ) (long : length ws ≡ at.words) where
           rs-long events_long
 
     module _ (ys es : List ℕ) (es-are : ys ≡ es) (es-long : length es ≡ group_count * event_words) where
-      to_the_end : (rs zs : List ℕ) → length rs ≡ 8 → Begun ws (words_of_book b ++ rs) at.events zs
-          → Put b rs es (put_mid at.events (group_count * event_words) zs ys)
-      to_the_end rs zs rs-long g =
-          read_back rs es (put_mid at.events (group_count * event_words) zs ys)
-          (begun_all ws _ at.words _ (begun_next ws (words_of_book b ++ rs) at.events (group_count * event_words) zs ys es g es-are es-long) long
-          ∙ append_assoc (words_of_book b) rs es)
-          rs-long es-long
-
       pub ended_put : Put b (renewed_in ws) es (put_mid at.events (group_count * event_words) now ys)
       ended_put =
-          to_the_end (renewed_in ws) now renewed_long (begun_more ws (words_of_book b) at.renewed 8 now book_begun (omega arith))
+          let held = begun_more ws (words_of_book b) at.renewed 8 now book_begun (omega arith) in
+          read_back (renewed_in ws) es (put_mid at.events (group_count * event_words) now ys)
+          (begun_all ws _ at.words _ (begun_next ws (words_of_book b ++ renewed_in ws) at.events (group_count * event_words) now ys es held es-are es-long) long
+          ∙ append_assoc (words_of_book b) (renewed_in ws) es)
+          renewed_long es-long
 
-      pub founded_put : (xs rs : List ℕ) → xs ≡ rs → length rs ≡ 8
-          → Put b rs es (put_mid at.events (group_count * event_words) (put_mid at.renewed 8 now xs) ys)
-      founded_put xs rs rs-are rs-long = to_the_end rs (put_mid at.renewed 8 now xs) rs-long (opened_begun xs rs rs-are rs-long)
+    -- nothing has been answered
+    abbrev zeros : ℕ → List ℕ
+    zeros n = replicate n 0
+
+    pub founded_put : (ys : List ℕ) → ys ≡ zeros (8 + group_count * event_words) → Put b (zeros 8) (zeros (group_count * event_words)) (put_mid at.renewed (8 + group_count * event_words) now ys)
+    founded_put ys e =
+        read_back (zeros 8) (zeros (group_count * event_words)) (put_mid at.renewed (8 + group_count * event_words) now ys)
+        (begun_all ws _ at.words _ (begun_next ws (words_of_book b) at.renewed (8 + group_count * event_words) now ys (zeros (8 + group_count * event_words)) book_begun e refl) long)
+        refl refl

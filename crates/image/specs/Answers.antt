@@ -3,7 +3,6 @@ use Rattle.std.specs.Prelude.{ℕ, ◌*◌, List, [], ◌∷◌}
 use Rattle.grain.specs.Products.{product_count}
 use Rattle.record.specs.declared.Event.{Event}
 use Rattle.record.specs.declared.Event.TheVariants.{Quiet, Triggered, Held, Reverted, Raised}
-use Rattle.record.specs.declared.GroupEvent.{GroupEvent}
 use Rattle.record.specs.State.{group_count}
 use Rattle.image.specs.Places.{event_words}
 use Rattle.image.specs.Places as at
@@ -16,9 +15,6 @@ words_of_event (Triggered l) = 1 ∷ l.month ∷ l.product ∷ []
 words_of_event (Held l) = 2 ∷ l.month ∷ l.product ∷ []
 words_of_event Reverted = 3 ∷ 0 ∷ 0 ∷ []
 words_of_event (Raised l) = 4 ∷ l.month ∷ l.product ∷ []
-
-abbrev pub words_of_group_event : GroupEvent → List ℕ
-words_of_group_event e = words_of_event e.event
 
 -- a word for each product
 abbrev pub renewed_in : List ℕ → List ℕ

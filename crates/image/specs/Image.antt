@@ -6,11 +6,15 @@ use Rattle.grain.specs.Amounts.{window_length}
 use Rattle.record.specs.declared.Contract.{Contract}
 use Rattle.record.specs.declared.Day.{Day}
 use Rattle.record.specs.State.{group_count, max_contracts}
-use Rattle.sheets.specs.declared.Sheet.{Sheet}
-use Rattle.windows.specs.declared.Windows.{Windows}
-use Rattle.book.specs.declared.Limit.{Limit}
+use Rattle.sheets.specs.declared.sheet.Sheet.{Sheet}
+use Rattle.windows.specs.declared.Window.{Window}
+use Rattle.windows.specs.Windows.{no_window}
+use Rattle.grain.specs.declared.amounts.Limit.{Limit}
 use Rattle.book.specs.declared.Standing.{Standing}
 use Rattle.book.specs.declared.Book.{Book}
+use Rattle.book.specs.declared.product.Product.{Product as Held}
+use Rattle.book.specs.Book.{no_limit, no_sheet}
+use Rattle.book.specs.Numbers.{all_products}
 use Rattle.book.specs.Founding.{no_book}
 use Rattle.image.specs.Places.{format_number, limit_words, standing_words, windows_words, contract_words, sheet_words}
 use Rattle.image.specs.Places as at
@@ -33,8 +37,9 @@ words_of_limit l = l.initial ∷ l.expanded ∷ []
 abbrev pub words_of_standing : Standing → List ℕ
 words_of_standing s = flag_word s.expanded ∷ flag_word s.marked ∷ []
 
-unfoldable pub words_of_windows : Windows → List ℕ
-words_of_windows w = map (count_word window_length) w.sizes ++ w.settlements
+-- the sizes of all windows, then the settlements of each
+unfoldable pub words_of_windows : List Window → List ℕ
+words_of_windows ws = map (λ (w : Window). count_word window_length w.size) ws ++ flat (λ (w : Window). w.settlements) ws
 
 abbrev pub words_of_contract : Contract → List ℕ
 words_of_contract c = c.month ∷ c.settlement ∷ []
@@ -42,14 +47,27 @@ words_of_contract c = c.month ∷ c.settlement ∷ []
 unfoldable pub words_of_sheet : Sheet → List ℕ
 words_of_sheet s = count_word max_contracts s.len ∷ flat words_of_contract s.contracts
 
+-- of what a book holds of its products, each part by itself
+abbrev pub limits_of : List Held → List Limit
+limits_of items = map (λ (h : Held). h.limit) items
+
+abbrev pub windows_of : List Held → List Window
+windows_of items = map (λ (h : Held). h.window) items
+
+abbrev pub todays_of : List Held → List Sheet
+todays_of items = map (λ (h : Held). h.today) items
+
+abbrev pub lasts_of : List Held → List Sheet
+lasts_of items = map (λ (h : Held). h.last) items
+
 unfoldable pub words_of_book : Book → List ℕ
 words_of_book b =
     words_of_head b.edition b.is_open b.day
-    ++ flat words_of_limit b.limits
+    ++ flat words_of_limit (limits_of b.products)
     ++ flat words_of_standing b.standings
-    ++ words_of_windows b.windows
-    ++ flat words_of_sheet b.today
-    ++ flat words_of_sheet b.last
+    ++ words_of_windows (windows_of b.products)
+    ++ flat words_of_sheet (todays_of b.products)
+    ++ flat words_of_sheet (lasts_of b.products)
 
 -- ---- the book in words
 abbrev pub is_flag : ℕ → Bool
@@ -61,9 +79,6 @@ limit_of ws = record { initial = get_or ws 0 0; expanded = get_or ws 1 0 }
 abbrev pub standing_of : List ℕ → Standing
 standing_of ws = record { expanded = eqb (get_or ws 0 0) 1; marked = eqb (get_or ws 1 0) 1 }
 
-unfoldable pub windows_of : List ℕ → Windows
-windows_of ws = record { settlements = part product_count (product_count * window_length) ws; sizes = part 0 product_count ws }
-
 abbrev pub contract_of : List ℕ → Contract
 contract_of ws = record { month = get_or ws 0 0; settlement = get_or ws 1 0 }
 
@@ -74,15 +89,33 @@ abbrev pub day_of : List ℕ → Day
 day_of ws =
     record { year = get_or ws at.year 0; month = get_or ws at.month 0; day = get_or ws at.day 0; left = get_or ws at.left 0 }
 
+abbrev pub limits_in : List ℕ → List Limit
+limits_in ws = chunks limit_words limit_of product_count (part at.limits (product_count * limit_words) ws)
+
+-- from the words of the windows alone
+unfoldable pub windows_in : List ℕ → List Window
+windows_in ws =
+    map
+    (λ p. record { settlements = get_or (chunks window_length (λ xs. xs) product_count (part product_count (product_count * window_length) ws)) p []; size = get_or ws p 0 })
+    all_products
+
+abbrev pub todays_in : List ℕ → List Sheet
+todays_in ws = chunks sheet_words sheet_of product_count (part at.today (product_count * sheet_words) ws)
+
+abbrev pub lasts_in : List ℕ → List Sheet
+lasts_in ws = chunks sheet_words sheet_of product_count (part at.last (product_count * sheet_words) ws)
+
+-- the parts of product p put together
+unfoldable pub items_by : List Limit → List Window → List Sheet → List Sheet → List Held
+items_by limits windows todays lasts =
+    map (λ p. record { limit = get_or limits p no_limit; window = get_or windows p no_window; today = get_or todays p no_sheet; last = get_or lasts p no_sheet }) all_products
+
 abbrev pub as_book : List ℕ → Book
 as_book ws =
     record {
       edition = get_or ws at.edition 0;
-      limits = chunks limit_words limit_of product_count (part at.limits (product_count * limit_words) ws);
       standings = chunks standing_words standing_of group_count (part at.standings (group_count * standing_words) ws);
-      windows = windows_of (part at.windows windows_words ws);
-      today = chunks sheet_words sheet_of product_count (part at.today (product_count * sheet_words) ws);
-      last = chunks sheet_words sheet_of product_count (part at.last (product_count * sheet_words) ws);
+      products = items_by (limits_in ws) (windows_in (part at.windows windows_words ws)) (todays_in ws) (lasts_in ws);
       day = day_of ws;
       is_open = eqb (get_or ws at.is_open 0) 1;
     }

@@ -1,102 +1,118 @@
 // The words of a book, part by part.
 ghost use Rattle.std.specs.Prelude.{◌≡◌, length};
+ghost use Rattle.grain.specs.Products.{product_count};
 ghost use Rattle.image.specs.Places as at;
-ghost use Rattle.image.specs.Image.{words_of_head, is_image, book_in};
+ghost use Rattle.image.specs.Words.{part};
+ghost use Rattle.image.specs.Image.{words_of_head, limits_of, windows_of, todays_of, lasts_of, limits_in, windows_in, todays_in, lasts_in, items_by, is_image, book_in};
 ghost use Rattle.image.specs.Put.{BookPut};
 
-use crate::flags::{are_flags, flag_word};
-use crate::limit_words::{limits_in, put_limits};
+use crate::flags::{are_flags, is_flag};
 use crate::places;
-use crate::sheet_words::{put_sheets, sheets_in};
-use crate::standing_words::{put_standings, standings_in};
+use crate::places::WORDS;
 use crate::window_words::{put_windows, windows_in};
-use book::Book;
-use grain::PRODUCT_COUNT;
+use crate::words::{put_all, read_all};
+use book::{Book, Product};
+use grain::{Limit, PRODUCT_COUNT};
 use record::Day;
+use sheets::Sheet;
+use std::array;
+use windows::Window;
 
-fn is_image(w: &[u32]) -> bool
-    requires { length w.now ≡ at.words }
+#[tactic(auto, using(crate::proofs::Bits::is_image_by))]
+fn is_image(w: &[u32; WORDS]) -> bool
     ensures { result ≡ is_image w.now }
 {
-    let is_other_format = w[places::FORMAT] != places::FORMAT_NUMBER;
-    if is_other_format {
-        return false;
-    }
-    if 1 < w[places::IS_OPEN] {
-        return false;
-    }
-    are_flags(&w[places::STANDINGS..places::WINDOWS])
+    w[places::FORMAT] == places::FORMAT_NUMBER
+        && is_flag(w[places::IS_OPEN])
+        && are_flags(&w[places::STANDINGS..places::WINDOWS])
+}
+
+// The parts of a product stand in four places of an image, each for all products.
+fn products_in(w: &[u32; WORDS]) -> [Product; PRODUCT_COUNT]
+    ensures { result ≡ items_by (limits_in w.now) (windows_in (part at.windows at.windows_words w.now)) (todays_in w.now) (lasts_in w.now) }
+{
+    let limits: [Limit; PRODUCT_COUNT] = read_all(&w[places::LIMITS..places::STANDINGS]);
+    let windows = windows_in(&w[places::WINDOWS..places::TODAY]);
+    let today: [Sheet; PRODUCT_COUNT] = read_all(&w[places::TODAY..places::LAST]);
+    let last: [Sheet; PRODUCT_COUNT] = read_all(&w[places::LAST..places::RENEWED]);
+    array::from_fn(|p| Product {
+        limit: limits[p],
+        window: windows[p],
+        today: today[p],
+        last: last[p],
+    })
 }
 
 // Words that are no image hold the book on which every call is refused with 1.
-pub(crate) fn read_book(w: &[u32]) -> Book
-    requires { length w.now ≡ at.words }
+pub fn book_in(w: &[u32; WORDS]) -> Book
     ensures { result ≡ book_in w.now }
 {
     if !is_image(w) {
-        let none = book::found(0, [0; PRODUCT_COUNT]);
-        let b = none.book;
-        return b;
+        return Book::none();
     }
-    let edition = w[places::EDITION];
-    let day = Day {
-        year: w[places::YEAR],
-        month: w[places::MONTH],
-        day: w[places::DAY],
-        left: w[places::LEFT],
-    };
-    let is_open = w[places::IS_OPEN] == 1;
-    let limits = limits_in(&w[places::LIMITS..places::STANDINGS]);
-    let standings = standings_in(&w[places::STANDINGS..places::WINDOWS]);
-    let windows = windows_in(&w[places::WINDOWS..places::TODAY]);
-    let today = sheets_in(&w[places::TODAY..places::LAST]);
-    let last = sheets_in(&w[places::LAST..places::RENEWED]);
     Book {
-        edition,
-        limits,
-        standings,
-        windows,
-        today,
-        last,
-        day,
-        is_open,
+        edition: w[places::EDITION],
+        standings: read_all(&w[places::STANDINGS..places::WINDOWS]),
+        products: products_in(w),
+        day: Day {
+            year: w[places::YEAR],
+            month: w[places::MONTH],
+            day: w[places::DAY],
+            left: w[places::LEFT],
+        },
+        is_open: w[places::IS_OPEN] == 1,
     }
 }
 
 // All before the limits.
-fn write_head(out: &mut [u32], edition: u32, is_open: bool, day: Day)
+fn write_head(out: &mut [u32], b: &Book)
     requires { length out.old ≡ at.limits }
-    ensures { out.new ≡ words_of_head edition is_open day }
+    ensures { out.new ≡ words_of_head b.now.edition b.now.is_open b.now.day }
 {
-    out[places::FORMAT] = places::FORMAT_NUMBER;
-    out[places::EDITION] = edition;
-    out[places::IS_OPEN] = flag_word(is_open);
-    out[places::YEAR] = day.year;
-    out[places::MONTH] = day.month;
-    out[places::DAY] = day.day;
-    out[places::LEFT] = day.left;
+    out.copy_from_slice(&[
+        places::FORMAT_NUMBER,
+        b.edition,
+        u32::from(b.is_open),
+        b.day.year,
+        b.day.month,
+        b.day.day,
+        b.day.left,
+    ]);
+}
+
+// The parts of the products, each of all of them, as an image has them.
+#[derive(Clone, Copy, Debug, PartialEq, Eq)]
+struct Parts {
+    limits: [Limit; PRODUCT_COUNT],
+    windows: [Window; PRODUCT_COUNT],
+    today: [Sheet; PRODUCT_COUNT],
+    last: [Sheet; PRODUCT_COUNT],
+}
+
+fn parts_of(products: &[Product; PRODUCT_COUNT]) -> Parts
+    ensures limits { result.limits ≡ limits_of products.now }
+    ensures windows { result.windows ≡ windows_of products.now }
+    ensures today { result.today ≡ todays_of products.now }
+    ensures last { result.last ≡ lasts_of products.now }
+    ensures many { length products.now ≡ product_count }
+{
+    Parts {
+        limits: products.map(|q| q.limit),
+        windows: products.map(|q| q.window),
+        today: products.map(|q| q.today),
+        last: products.map(|q| q.last),
+    }
 }
 
 // The words after the book's stay.
-pub(crate) fn write_book(w: &mut [u32], b: Book)
-    requires { length w.old ≡ at.words }
-    ensures { BookPut w.old b w.new }
+pub(crate) fn write_book(w: &mut [u32; WORDS], b: &Book)
+    ensures { BookPut w.old b.now w.new }
 {
-    let day = b.day;
-    write_head(
-        &mut w[places::FORMAT..places::LIMITS],
-        b.edition,
-        b.is_open,
-        day,
-    );
-    let limits = b.limits;
-    put_limits(&mut w[places::LIMITS..places::STANDINGS], limits);
-    let standings = b.standings;
-    put_standings(&mut w[places::STANDINGS..places::WINDOWS], standings);
-    let windows = b.windows;
-    put_windows(&mut w[places::WINDOWS..places::TODAY], windows);
-    let today = b.today;
-    put_sheets(&mut w[places::TODAY..places::LAST], today);
-    let last = b.last;
-    put_sheets(&mut w[places::LAST..places::RENEWED], last);
+    let parts = parts_of(&b.products);
+    write_head(&mut w[places::FORMAT..places::LIMITS], b);
+    put_all(&parts.limits, &mut w[places::LIMITS..places::STANDINGS]);
+    put_all(&b.standings, &mut w[places::STANDINGS..places::WINDOWS]);
+    put_windows(&parts.windows, &mut w[places::WINDOWS..places::TODAY]);
+    put_all(&parts.today, &mut w[places::TODAY..places::LAST]);
+    put_all(&parts.last, &mut w[places::LAST..places::RENEWED]);
 }

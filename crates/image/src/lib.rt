@@ -12,6 +12,8 @@ mod sheet_words;
 mod standing_words;
 mod whole;
 mod window_words;
+mod words;
 
+pub use book_words::book_in;
 pub use places::WORDS;
-pub use whole::{book_in, put_ended, put_filed, put_founded, put_opened};
+pub use whole::{put_ended, put_filed, put_founded, put_opened};

@@ -1,71 +1,71 @@
-// The windows as words: the sizes, then the flat array of settlements.
-ghost use Rattle.std.specs.Prelude.{◌≡◌, map, length, ◌*◌};
-ghost use Rattle.grain.specs.Products.{product_count};
+// The windows as words: the sizes, then the settlements of each.
+ghost use Rattle.std.specs.Prelude.{◌≡◌, length};
 ghost use Rattle.grain.specs.Amounts.{window_length};
 ghost use Rattle.image.specs.Places.{windows_words};
-ghost use Rattle.image.specs.Image.{count_word, windows_of, words_of_windows};
+ghost use Rattle.image.specs.Image.{windows_in, words_of_windows};
 ghost use Rattle.image.specs.Put.{WindowsPut};
 
-use crate::counts::{count_word, wide};
-use crate::places::{SETTLEMENTS, WINDOWS_WORDS};
+use crate::counts::count_word;
+use crate::places::WINDOWS_WORDS;
+use crate::words::{FromWords, ToWords, put_all, read_all};
 use grain::{PRODUCT_COUNT, WINDOW_LENGTH};
-use windows::Windows;
+use std::array;
+use windows::Window;
 
-fn sizes_in(s: &[u32]) -> [usize; PRODUCT_COUNT]
-    requires { length s.now ≡ product_count }
-    ensures { result ≡ s.now }
-{
-    let mut all = [0; PRODUCT_COUNT];
-    for p in 0..PRODUCT_COUNT {
-        all[p] = wide(s[p]);
-    }
-    all
-}
+impl ToWords for [u32; WINDOW_LENGTH] {
+    const COUNT: usize = WINDOW_LENGTH;
 
-fn settlements_in(s: &[u32]) -> [u32; SETTLEMENTS]
-    requires { length s.now ≡ product_count * window_length }
-    ensures { result ≡ s.now }
-{
-    let mut all = [0; SETTLEMENTS];
-    for i in 0..SETTLEMENTS {
-        all[i] = s[i];
-    }
-    all
-}
+    ghost COUNT = { window_length };
 
-pub(crate) fn windows_in(s: &[u32]) -> Windows
-    requires { length s.now ≡ windows_words }
-    ensures { result ≡ windows_of s.now }
-{
-    let sizes = sizes_in(&s[0..PRODUCT_COUNT]);
-    let settlements = settlements_in(&s[PRODUCT_COUNT..WINDOWS_WORDS]);
-    Windows { settlements, sizes }
-}
+    ghost words_of = { λ settlements. settlements };
 
-fn put_sizes(out: &mut [u32], sizes: [usize; PRODUCT_COUNT])
-    requires { length out.old ≡ product_count }
-    ensures { (out.new ≡ map (count_word window_length) sizes) × (length sizes ≡ product_count) }
-{
-    for p in 0..PRODUCT_COUNT {
-        out[p] = count_word(WINDOW_LENGTH, sizes[p]);
+    fn put(self, out: &mut [u32]) {
+        out.copy_from_slice(&self);
     }
 }
 
-fn put_settlements(out: &mut [u32], settlements: [u32; SETTLEMENTS])
-    requires { length out.old ≡ product_count * window_length }
-    ensures { (out.new ≡ settlements) × (length settlements ≡ product_count * window_length) }
-{
-    for i in 0..SETTLEMENTS {
-        out[i] = settlements[i];
+impl FromWords for [u32; WINDOW_LENGTH] {
+    ghost of_words = { λ words. words };
+
+    fn read(words: &[u32]) -> [u32; WINDOW_LENGTH] {
+        let mut settlements = [0; WINDOW_LENGTH];
+        settlements.copy_from_slice(words);
+        settlements
     }
 }
 
-pub(crate) fn put_windows(out: &mut [u32], w: Windows)
+// Of a window its settlements alone: the sizes of all stand before them.
+impl ToWords for Window {
+    const COUNT: usize = WINDOW_LENGTH;
+
+    ghost COUNT = { window_length };
+
+    ghost words_of = { λ w. w.settlements };
+
+    fn put(self, out: &mut [u32]) {
+        self.settlements.put(out);
+    }
+}
+
+pub(crate) fn windows_in(words: &[u32]) -> [Window; PRODUCT_COUNT]
+    requires { length words.now ≡ windows_words }
+    ensures { result ≡ windows_in words.now }
+{
+    let settlements: [[u32; WINDOW_LENGTH]; PRODUCT_COUNT] = read_all(
+        &words[PRODUCT_COUNT..WINDOWS_WORDS],
+    );
+    array::from_fn(|p| Window {
+        settlements: settlements[p],
+        size: words[p] as usize,
+    })
+}
+
+pub(crate) fn put_windows(windows: &[Window; PRODUCT_COUNT], out: &mut [u32])
     requires { length out.old ≡ windows_words }
-    ensures { (out.new ≡ words_of_windows w) × WindowsPut w }
+    ensures words { out.new ≡ words_of_windows windows.now }
+    ensures long { WindowsPut windows.now }
 {
-    let sizes = w.sizes;
-    put_sizes(&mut out[0..PRODUCT_COUNT], sizes);
-    let settlements = w.settlements;
-    put_settlements(&mut out[PRODUCT_COUNT..WINDOWS_WORDS], settlements);
+    let sizes = windows.map(|w| count_word(WINDOW_LENGTH, w.size));
+    out[..PRODUCT_COUNT].copy_from_slice(&sizes);
+    put_all(windows, &mut out[PRODUCT_COUNT..WINDOWS_WORDS]);
 }

@@ -1,0 +1,65 @@
+-- An array made by a closure that keeps what it captured: its elements are what the closure gives at each index, or of each element of another.
+use Rattle.std.proofs.Common.{ℕ, zero, suc, ◌+◌, ◌*◌, ◌<◌, ◌≤◌, ◌≡◌, refl, sym, ◌∙◌, ap, subst, List, ◌∷◌, length, get_or, take, drop, map, arith}
+use Rattle.std.specs.Fn.{Mut, Called}
+use Rattle.std.specs.Array.{IsFromFnResult, IsFromFnResultFrom, IsMapOf, MapsFrom}
+use Rattle.std.specs.List.{range_with_len}
+use Rattle.std.proofs.lemmas.List.FromFn.{fill_by_all}
+use native.Mathlib.Nat.{mul-suc, mul-zero}
+use native.Mathlib.Numerals.{add-one}
+use lib.ListN.{drop_of_length-le}
+use lib.Seq.{drop-drop, drop-cons, length-take-le, get_or-take}
+use Rattle.image.specs.Words.{chunks}
+
+module _ {F B : Type 0} (g : Mut F (ℕ × Unit {0}) B) (value : ℕ → B) (f : F)
+    (calls : (i : ℕ) (y : B) (q : F) → Called g f (i, tt) y q → (q ≡ f) × (y ≡ value i)) where
+  values_from : (ys : List B) (i n : ℕ) (p : F) → p ≡ f → length ys ≡ i + n → IsFromFnResultFrom g p ys i n
+      → drop i ys ≡ map value (range_with_len i n)
+  values_from ys i zero p e long h = let all : length ys ≤ i = omega arith in drop_of_length-le ys all
+  values_from ys i (suc n) p e long (q, y, here, called, more) =
+      let one = calls i y q (subst (λ (s : F). Called g s (i, tt) y q) e called) in
+      let inside : i < length ys = omega arith in
+      let rest : length ys ≡ i + 1 + n = omega arith in
+      drop-cons ys i y inside
+      ∙ ap (λ v. v ∷ drop (suc i) ys) (here.0 ∙ one.1)
+      ∙ ap (λ r. value i ∷ r) (ap (λ m. drop m ys) (sym (add-one i)) ∙ values_from ys (i + 1) n q one.0 rest more)
+
+  pub from_fn_values : (ys : List B) (n : ℕ) → IsFromFnResult g f ys n → ys ≡ map value (range_with_len 0 n)
+  from_fn_values ys n r = let long : length ys ≡ 0 + n = omega (arith, r.long) in values_from ys 0 n f refl long r.each
+
+module _ {F A B : Type 0} (g : Mut F (A × Unit {0}) B) (value : A → B) (f : F)
+    (calls : (x : A) (y : B) (q : F) → Called g f (x, tt) y q → (q ≡ f) × (y ≡ value x)) where
+  mapped_from : (xs : List A) (ys : List B) (i n : ℕ) (p : F) → p ≡ f → length xs ≡ i + n → length ys ≡ i + n → MapsFrom g p xs ys i n
+      → drop i ys ≡ map value (drop i xs)
+  mapped_from xs ys i zero p e long all h =
+      let over : length xs ≤ i = omega arith in
+      let past : length ys ≤ i = omega arith in
+      rw (drop_of_length-le xs over) (drop_of_length-le ys past)
+  mapped_from xs ys i (suc n) p e long all (q, x, y, from, here, called, more) =
+      let one = calls x y q (subst (λ (s : F). Called g s (x, tt) y q) e called) in
+      let within : i < length xs = omega arith in
+      let inside : i < length ys = omega arith in
+      let rest : length xs ≡ i + 1 + n = omega arith in
+      let left : length ys ≡ i + 1 + n = omega arith in
+      drop-cons ys i y inside
+      ∙ ap (λ v. v ∷ drop (suc i) ys) (here.0 ∙ one.1)
+      ∙ ap (λ r. value x ∷ r) (ap (λ m. drop m ys) (sym (add-one i)) ∙ mapped_from xs ys (i + 1) n q one.0 rest left more ∙ ap (λ m. map value (drop m xs)) (add-one i))
+      ∙ ap (λ v. value v ∷ map value (drop (suc i) xs)) (sym from.0)
+      ∙ ap (map value) (sym (drop-cons xs i x within))
+
+  pub map_values : (xs : List A) (ys : List B) (n : ℕ) → length xs ≡ n → IsMapOf g f xs ys n → ys ≡ map value xs
+  map_values xs ys n e r =
+      let long : length xs ≡ 0 + n = omega arith in
+      let all : length ys ≡ 0 + n = omega (arith, r.long) in
+      mapped_from xs ys 0 n f refl long all r.each
+
+-- the elements of a list in words, each by its index
+module _ {A : Type 0} (k : ℕ) (of : List ℕ → A) (ws : List ℕ) where
+  chunks_from : (a n : ℕ) → map (λ i. of (take k (drop (k * i) ws))) (range_with_len a n) ≡ chunks k of n (drop (k * a) ws)
+  unfolding chunks
+  chunks_from a zero = refl
+  chunks_from a (suc n) =
+      ap (λ r. of (take k (drop (k * a) ws)) ∷ r)
+      (chunks_from (a + 1) n ∙ ap (λ m. chunks k of n m) (rw (add-one, mul-suc k a) (sym (drop-drop k (k * a) ws))))
+
+  pub chunks_by_index : (n : ℕ) → map (λ i. of (take k (drop (k * i) ws))) (range_with_len 0 n) ≡ chunks k of n ws
+  chunks_by_index n = chunks_from 0 n ∙ ap (λ m. chunks k of n (drop m ws)) (mul-zero k)
