@@ -3,7 +3,7 @@ use Prim.Native.Nat.{ℕ, ◌<◌}
 use mathlib.Core.Path.{◌≡◌, refl, ◌∙◌, ap}
 use mathlib.Core.Bool.{true, false, not}
 use mathlib.Core.List.{List, [], ◌∷◌}
-use mathlib.Core.Option.{Option, some, none}
+use Rattle.std.specs.Prelude.{Option, Some, None}
 use native.Mathlib.Omega.{arith}
 use lib.Dec.{eqb}
 use Rattle.grain.specs.Lists.{every}
@@ -20,7 +20,6 @@ use Rattle.record.specs.History.{SameFor}
 use Rattle.record.specs.Theorems.{after, history_of, is_refusal}
 use Rattle.record.proofs.Proved.{theorems}
 use Rattle.book.specs.Book.{view}
-use Rattle.book.proofs.FoundingNumbers.{accepted_by}
 use Rattle.book.proofs.Numbered.{unsound-refusal}
 use Rattle.book.proofs.Responses.{check_responds}
 use Rattle.book.proofs.Unfounded.{no_book-unsound}
@@ -30,18 +29,18 @@ use Rattle.image.specs.Answers.{renewed_in, events_in}
 use Rattle.gateway.specs.Calls.{answer_number, renewed_after, events_after, answer_to, RespondsImage, answer_span, with_span, image_check, no_renewed, no_events}
 use Rattle.gateway.specs.declared.spans.Spanned.{Spanned}
 use Rattle.gateway.specs.Images.{Seen, sees, seen_of, ImageTrace, done, changes, checks, spans, ImageRun, ResentImage, WholeImages, NoImage}
-use Rattle.gateway.proofs.Numbers.{number_of}
+use Rattle.gateway.proofs.Numbers.{number_of, accepted_by}
 
 -- ---- one call
 -- a check's answer leaves what stands beside the book
 module _ (v : Verdict) (l : List ℕ) where
   keeps_renewed : (o : Option ℕ) → l ≡ renewed_after (answer_by o (checked v)) l
-  keeps_renewed (some n) = refl
-  keeps_renewed none = refl
+  keeps_renewed (Some n) = refl
+  keeps_renewed None = refl
 
   keeps_events : (o : Option ℕ) → l ≡ events_after (answer_by o (checked v)) l
-  keeps_events (some n) = refl
-  keeps_events none = refl
+  keeps_events (Some n) = refl
+  keeps_events None = refl
 
 check_image : (ws : List ℕ) (p size month price n : ℕ) → n ≡ image_check ws p size month price → RespondsImage ws (check p size month price) n ws
 unfolding respond answer
@@ -77,8 +76,8 @@ follows (checks n e t) = one_more (check_image _ _ _ _ _ n e) (follows t)
 follows (spans r e t) = one_more (check_image _ _ _ _ _ r.answer (ap (λ (r : Spanned). r.answer) e)) (follows t)
 
 module _ (s : Start) (cs : List Call) (vs : List Seen) (z : List ℕ) (run : ImageRun s cs vs z) where
-  accepted : founding_refusal s ≡ none
-  accepted = accepted_by s 0 run.founds.number refl
+  accepted : founding_refusal s ≡ None
+  accepted = accepted_by s run.founds.number
 
   seen_is : vs ≡ seen_of no_renewed no_events (answers (founded s) cs)
   seen_is =
@@ -94,7 +93,7 @@ module _ (s : Start) (cs : List Call) (vs : List Seen) (z : List ℕ) (run : Ima
 
   -- a verdict with a span, sent again at its ends
   module _ (p size month price : ℕ) where
-    at_ends : (v : Verdict) (a : Span) → answer_to z (check p size month price) ≡ checked v → span_in v ≡ some a
+    at_ends : (v : Verdict) (a : Span) → answer_to z (check p size month price) ≡ checked v → span_in v ≡ Some a
         → ResentImage z p size month (with_span (checked (Within a)))
     at_ends v a e has =
         let r = agrees.resent s cs (book_in z) contents_are p size month price v a e has in

@@ -3,24 +3,23 @@ use Prim.Native.Nat.{ℕ}
 use mathlib.Core.Path.{◌≡◌, refl, sym, ◌∙◌, ap}
 use mathlib.Core.Bool.{Bool, true, false}
 use mathlib.Core.List.{List}
-use mathlib.Core.Option.{Option, some, none}
-use borrow.Author.Tests.{ne_eqb}
+use Rattle.std.specs.Prelude.{Option, Some, None, Ok, Err}
+use Rattle.grain.specs.Refusals.{number_of}
+use Rattle.grain.specs.declared.refusals.Refusal.{Refusal}
 use Rattle.record.specs.State.{Record}
 use Rattle.record.specs.Founding.{Start}
 use Rattle.record.specs.Sound.{is_sound}
 use Rattle.record.specs.Record.{Call, opening, sheet, end, check, Answer, refused, opened, filed, ended, checked, refusal, answer, answer_by, state_by, respond}
 use Rattle.record.proofs.StaysSound.{founded_sound, respond_sound}
 use Rattle.book.specs.declared.Book.{Book}
-use Rattle.book.specs.declared.founding.Founding.{Founding}
 use Rattle.book.specs.Book.{view}
-use Rattle.book.specs.Calls.{Responds, answer_as}
+use Rattle.book.specs.Calls.{Responds}
 use Rattle.book.specs.Founding.{Founds}
-use Rattle.book.proofs.FoundingNumbers.{accepted_by, refused_by_lem}
 use Rattle.book.proofs.Numbered.{unsound-refusal}
 use Rattle.image.specs.Image.{book_in}
 use Rattle.image.specs.Answers.{renewed_in, events_in}
 use Rattle.image.specs.Put.{Put}
-use Rattle.gateway.specs.Calls.{answer_number, renewed_after, events_after, answer_to, RespondsImage, no_renewed, no_events, FoundsImage}
+use Rattle.gateway.specs.Calls.{answer_number, renewed_after, events_after, RespondsImage, no_renewed, no_events, FoundsImage}
 
 abbrev is_accepted : Answer → Bool
 is_accepted (refused n) = false
@@ -39,33 +38,31 @@ accepted_answer r (check p size month price) = refl
 
 -- what answers a refusal is refused, and changes nothing
 stays_by : (o : Option ℕ) (r : Record) (c : Call) (n : ℕ) → refused n ≡ answer_by o (answer r c) → r ≡ state_by o r c
-stays_by (some m) r c n e = refl
-stays_by none r c n e =
+stays_by (Some m) r c n e = refl
+stays_by None r c n e =
     let x : ◌≡◌ {A = Bool} false true = ap is_accepted e ∙ accepted_answer r c in cc
 
 refused_stays : (r : Record) (c : Call) (n : ℕ) → refused n ≡ (respond r c).answer → r ≡ (respond r c).state
 unfolding respond
 refused_stays r c n e = stays_by (refusal r c) r c n e
 
-pub refused_image : (ws : List ℕ) (c : Call) (n : ℕ) (a : Answer) (z : Book) → (n ≡ 0 → ⊥) → Responds (book_in ws) c (answer_as n a) z
-    → RespondsImage ws c n ws
-refused_image ws c n a z f r =
-    let is : refused n ≡ answer_to ws c = rw (ne_eqb n 0 f) at r.answer in
+pub refused_image : (ws : List ℕ) (c : Call) (n : ℕ) (z : Book) → Responds (book_in ws) c (refused n) z → RespondsImage ws c n ws
+refused_image ws c n z r =
     record {
-      number = ap answer_number is;
-      state = refused_stays (view (book_in ws)) c n is;
-      renewed = ap (λ a. renewed_after a (renewed_in ws)) is;
-      events = ap (λ a. events_after a (events_in ws)) is;
+      number = ap answer_number r.answer;
+      state = refused_stays (view (book_in ws)) c n r.answer;
+      renewed = ap (λ a. renewed_after a (renewed_in ws)) r.answer;
+      events = ap (λ a. events_after a (events_in ws)) r.answer;
       unchanged = λ m e. refl;
     }
 
 -- what answers no refusal is not refused
-none-by : (o : Option ℕ) (a : Answer) → is_accepted (answer_by o a) ≡ true → o ≡ none
-none-by (some m) a e = let x : ◌≡◌ {A = Bool} false true = e in cc
-none-by none a e = refl
+none-by : (o : Option ℕ) (a : Answer) → is_accepted (answer_by o a) ≡ true → o ≡ None
+none-by (Some m) a e = let x : ◌≡◌ {A = Bool} false true = e in cc
+none-by None a e = refl
 
 module _ (ws : List ℕ) (c : Call) (a : Answer) (z : Book) (yes : is_accepted a ≡ true) (r : Responds (book_in ws) c a z) where
-  not_refused : refusal (view (book_in ws)) c ≡ none
+  not_refused : refusal (view (book_in ws)) c ≡ None
   unfolding respond
   not_refused = none-by (refusal (view (book_in ws)) c) (answer (view (book_in ws)) c) (sym (ap is_accepted r.answer) ∙ yes)
 
@@ -92,26 +89,23 @@ module _ (ws : List ℕ) (c : Call) (a : Answer) (z : Book) (yes : is_accepted a
       }
 
 -- a founding
-module _ (ws : List ℕ) (s : Start) (f : Founding) (founds : Founds s f) where
-  pub refused_founding : (f.refusal ≡ 0 → ⊥) → FoundsImage ws s f.refusal ws
-  refused_founding other =
-      let no = refused_by_lem s f.refusal founds.refusal other in
-      record {
-        number = founds.refusal;
-        state = λ e. cc (no, e);
-        renewed = λ e. cc (no, e);
-        events = λ e. cc (no, e);
-        unchanged = λ n e. refl;
-      }
+pub refused_founding : (ws : List ℕ) (s : Start) (r : Refusal) → Founds s (Err r) → FoundsImage ws s (number_of r) ws
+refused_founding ws s r refuses =
+    record {
+      number = rw refuses;
+      state = λ e. cc (refuses, e);
+      renewed = λ e. cc (refuses, e);
+      events = λ e. cc (refuses, e);
+      unchanged = λ n e. refl;
+    }
 
-  pub accepted_founding : (now : List ℕ) → f.refusal ≡ 0 → Put f.book no_renewed no_events now → FoundsImage ws s 0 now
-  accepted_founding now zero p =
-      let yes = accepted_by s f.refusal founds.refusal zero in
-      let is = founds.accepted yes in
-      record {
-        number = sym zero ∙ founds.refusal;
-        state = λ e. ap view (p.book (rw is (founded_sound s yes))) ∙ is;
-        renewed = λ e. p.renewed;
-        events = λ e. p.events;
-        unchanged = λ n e. cc (yes, e);
-      }
+pub accepted_founding : (ws : List ℕ) (s : Start) (b : Book) → Founds s (Ok b) → (now : List ℕ) → Put b no_renewed no_events now
+    → FoundsImage ws s 0 now
+accepted_founding ws s b founds now p =
+    record {
+      number = rw founds.0;
+      state = λ e. ap view (p.book (rw founds.1 (founded_sound s founds.0))) ∙ founds.1;
+      renewed = λ e. p.renewed;
+      events = λ e. p.events;
+      unchanged = λ n e. cc (founds.0, e);
+    }

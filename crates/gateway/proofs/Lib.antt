@@ -2,7 +2,6 @@ pub mod Leaves
 pub mod Numbers
 pub mod Imaged
 pub mod TallyWords
-pub mod BareSpans
 pub mod NotFull
 pub mod Proved
 pub mod Ties

@@ -1,6 +1,5 @@
 -- What holds of every list of checks through one tally, bare ones and those on books.
 use mathlib.Core.Path.{refl}
-use Rattle.grain.specs.Bare.{bare_answer}
 use Rattle.tally.specs.Through.{tallied_answer, tally_after}
 use Rattle.tally.proofs.Totals.{Lawful}
 use Rattle.tally.proofs.Proved.{through_one_tally}
@@ -13,7 +12,7 @@ bare_lawful =
     record {
       answers = λ t o r u p. p.answer;
       tally = λ t o r u p. p.tally;
-      not_full = λ o. bare_not_full (bare_answer o.product o.size o.settlement o.amount o.spot o.price);
+      not_full = λ o. bare_not_full o.product o.size o.settlement o.amount o.spot o.price;
       says_full = refl;
     }
 

@@ -1,20 +1,35 @@
 -- One more check in a tally's six words: what both checks through a tally cite.
-use Prim.Native.Nat.{ℕ}
-use mathlib.Core.Path.{◌≡◌, ◌∙◌, ap}
-use mathlib.Core.Bool.{cond}
-use mathlib.Core.List.{List}
-use Rattle.tally.specs.declared.Tally.{Tally}
-use Rattle.tally.specs.declared.Kind.{Kind}
-use Rattle.tally.specs.Tally.{tally_refusal, takes, counted}
-use Rattle.tally.proofs.Answered.{answered_counted}
-use Rattle.gateway.specs.Tallied.{tally_in, words_of_tally, kind_of_number}
+use Rattle.std.proofs.Common.{◌≡◌, refl, Result, Ok, Err}
+use Rattle.grain.specs.Bare.{checked_number}
+use Rattle.grain.specs.declared.check.Verdict.{Verdict}
+use Rattle.grain.specs.declared.check.Verdict.TheVariants.{Free, Within, Below, Above}
+use Rattle.grain.specs.declared.refusals.Refusal.{Refusal}
+use Rattle.grain.specs.declared.refusals.Refusal.TheVariants.{Unsound, WrongPhase, NoSuchDate, NotLater, NoSuchProduct, Misshapen, BadMonth, BadPrice, ContractAbsent, BeyondLimit, AlreadyIn, SheetOutstanding, UnfitAmount, NotListed, TallyFull, LeftNotSmaller, UnknownEdition, GroupExpanded}
+use Rattle.tally.specs.Tally.{kind_of}
+use Rattle.gateway.specs.Tallied.{kind_of_number}
 
--- a is the answer without a tally, r the one through it
-module _ (ws : List ℕ) (t : Tally) (r a : ℕ) (t-is : t ≡ tally_in ws) (r-is : r ≡ cond (takes t) a (tally_refusal t)) where
-  pub answered : r ≡ cond (takes (tally_in ws)) a (tally_refusal (tally_in ws))
-  answered = rw (← t-is) r-is
-
-  pub tallied : (u : Tally) (k : Kind) (now : List ℕ) → k ≡ kind_of_number r → u ≡ counted t k → now ≡ words_of_tally u
-      → tally_in now ≡ counted (tally_in ws) (kind_of_number a)
-  tallied u k now k-is u-is now-is =
-      rw (← t-is) (ap tally_in now-is ∙ u-is ∙ ap (counted t) k-is ∙ answered_counted kind_of_number t a (tally_refusal t) r r-is)
+-- a result's number is counted as the result is
+pub same_kind : (r : Result Verdict Refusal) → kind_of_number (checked_number r) ≡ kind_of r
+unfolding kind_of_number
+same_kind (Ok Free) = refl
+same_kind (Ok (Within s)) = refl
+same_kind (Ok (Below s)) = refl
+same_kind (Ok (Above s)) = refl
+same_kind (Err Unsound) = refl
+same_kind (Err WrongPhase) = refl
+same_kind (Err NoSuchDate) = refl
+same_kind (Err NotLater) = refl
+same_kind (Err NoSuchProduct) = refl
+same_kind (Err Misshapen) = refl
+same_kind (Err BadMonth) = refl
+same_kind (Err BadPrice) = refl
+same_kind (Err ContractAbsent) = refl
+same_kind (Err BeyondLimit) = refl
+same_kind (Err AlreadyIn) = refl
+same_kind (Err SheetOutstanding) = refl
+same_kind (Err UnfitAmount) = refl
+same_kind (Err NotListed) = refl
+same_kind (Err TallyFull) = refl
+same_kind (Err LeftNotSmaller) = refl
+same_kind (Err UnknownEdition) = refl
+same_kind (Err GroupExpanded) = refl

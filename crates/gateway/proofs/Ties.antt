@@ -8,7 +8,8 @@ use Rattle.record.specs.Record.{opening, sheet, end}
 use Rattle.opening.specs.Opens.{day_on}
 use Rattle.gateway.specs.declared.spans.Spanned.{Spanned}
 use Rattle.gateway.specs.Calls.{RespondsImage, image_check, image_span, FoundsImage}
-use Rattle.gateway.specs.Tallied.{tally_in, TalliesBare, TalliesImage}
+use Rattle.tally.specs.Words.{tally_in}
+use Rattle.gateway.specs.Tallied.{TalliesBare, TalliesImage}
 use Rattle.gateway.proofs.calls.botskhela_found.Reads as founds
 use Rattle.gateway.proofs.calls.botskhela_open.Reads as opens
 use Rattle.gateway.proofs.calls.botskhela_sheet.Reads as files

@@ -1,11 +1,10 @@
 -- What each call on a book by pointer promises, whatever words are lent: what the Record answers and does to the book in them.
-use Rattle.std.specs.Prelude.{ℕ, ◌*◌, ◌≡◌, List, map, replicate}
-use Rattle.std.proofs.Math.Option.{some, none}
+use Rattle.std.specs.Prelude.{ℕ, ◌*◌, ◌≡◌, List, map, replicate, Some, None, unwrap_or}
 use Rattle.grain.specs.Products.{product_count}
 use Rattle.grain.specs.Check.{span_in}
-use Rattle.grain.specs.Bare.{verdict_number, no_span, span_or}
+use Rattle.grain.specs.Check.{verdict_number}
+use Rattle.grain.specs.Bare.{no_span, span_or}
 use Rattle.grain.specs.declared.check.Span.{Span}
-use Rattle.record.specs.Choices.{or_else}
 use Rattle.record.specs.State.{group_count}
 use Rattle.record.specs.Founding.{Start, founding_refusal, founded}
 use Rattle.record.specs.Record.{Call, check, Answer, refused, opened, filed, ended, checked, refusal, respond}
@@ -51,7 +50,7 @@ pub record RespondsImage (ws : List ℕ) (c : Call) (n : ℕ) (now : List ℕ) :
   pub state : view (book_in now) ≡ (respond (view (book_in ws)) c).state
   pub renewed : renewed_in now ≡ renewed_after (answer_to ws c) (renewed_in ws)
   pub events : events_in now ≡ events_after (answer_to ws c) (events_in ws)
-  pub unchanged : (m : ℕ) → refusal (view (book_in ws)) c ≡ some m → now ≡ ws
+  pub unchanged : (m : ℕ) → refusal (view (book_in ws)) c ≡ Some m → now ≡ ws
 
 -- the number that a check returns, which is lent the words to read only
 abbrev pub image_check : List ℕ → ℕ → ℕ → ℕ → ℕ → ℕ
@@ -81,8 +80,8 @@ no_events = replicate (group_count * event_words) 0
 
 -- A founding looks at nothing of the words; a refused one leaves the very words.
 pub record FoundsImage (ws : List ℕ) (s : Start) (n : ℕ) (now : List ℕ) : Type 0 where
-  pub number : n ≡ or_else (founding_refusal s) 0
-  pub state : founding_refusal s ≡ none → view (book_in now) ≡ founded s
-  pub renewed : founding_refusal s ≡ none → renewed_in now ≡ no_renewed
-  pub events : founding_refusal s ≡ none → events_in now ≡ no_events
-  pub unchanged : (m : ℕ) → founding_refusal s ≡ some m → now ≡ ws
+  pub number : n ≡ unwrap_or (founding_refusal s) 0
+  pub state : founding_refusal s ≡ None → view (book_in now) ≡ founded s
+  pub renewed : founding_refusal s ≡ None → renewed_in now ≡ no_renewed
+  pub events : founding_refusal s ≡ None → events_in now ≡ no_events
+  pub unchanged : (m : ℕ) → founding_refusal s ≡ Some m → now ≡ ws

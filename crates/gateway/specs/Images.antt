@@ -3,7 +3,7 @@
 use Rattle.std.specs.Prelude.{ℕ, ◌<◌, ◌≡◌, true, false, not, List, [], ◌∷◌, ◌++◌, eqb}
 use Rattle.grain.specs.Lists.{every}
 use Rattle.grain.specs.Check.{is_within}
-use Rattle.grain.specs.Bare.{within}
+use Rattle.grain.specs.Check.{within}
 use Rattle.grain.specs.declared.check.Verdict.{Verdict}
 use Rattle.grain.specs.declared.check.Verdict.TheVariants.{Free}
 use Rattle.record.specs.Refusals.{unsound}

@@ -1,10 +1,9 @@
-// The calls on a book: the book in the words, the same call in Rattle, and where it is accepted the image of the book that it returns.
+// The calls on a book: the book in the words, the same call in Rattle, and where it is accepted the image of the book that it leaves.
 ghost use Rattle.std.specs.Prelude.{[], ◌∷◌, ◌≡◌};
 ghost use Rattle.record.specs.Record.{opening, sheet, end};
 ghost use Rattle.opening.specs.Opens.{day_on};
 ghost use Rattle.gateway.specs.Calls.{RespondsImage, image_check, FoundsImage};
 
-use crate::spans::botskhela_check_span;
 use image::{WORDS, book_in, put_ended, put_filed, put_founded, put_opened};
 
 #[unsafe(no_mangle)]
@@ -32,13 +31,13 @@ pub extern "C" fn botskhela_found(
         oats,
         rough_rice,
     ];
-    let founding = book::found(edition, limits);
-    if founding.refusal != 0 {
-        return founding.refusal;
+    match book::found(edition, limits) {
+        Ok(fresh) => {
+            put_founded(words, &fresh);
+            0
+        }
+        Err(refusal) => refusal.into(),
     }
-    let fresh = founding.book;
-    put_founded(words, fresh);
-    0
 }
 
 #[unsafe(no_mangle)]
@@ -51,15 +50,14 @@ pub extern "C" fn botskhela_open(
 ) -> u32
     ensures { RespondsImage words.old (opening (day_on year month day left)) result words.new }
 {
-    let opened = opening::opening(book_in(words), year, month, day, left);
-    let is_refused = opened.refusal != 0;
-    if is_refused {
-        return opened.refusal;
+    let mut b = book_in(words);
+    match opening::opening(&mut b, year, month, day, left) {
+        Ok(renewed) => {
+            put_opened(words, &b, renewed);
+            0
+        }
+        Err(refusal) => refusal.into(),
     }
-    let next = opened.book;
-    let renewed = opened.renewed;
-    put_opened(words, next, renewed);
-    0
 }
 
 #[unsafe(no_mangle)]
@@ -71,27 +69,28 @@ pub extern "C" fn botskhela_sheet(
 ) -> u32
     ensures { RespondsImage words.old (sheet product months.now settlements.now) result words.new }
 {
-    let filed = filing::sheet(book_in(words), product, months, settlements);
-    if filed.refusal != 0 {
-        return filed.refusal;
+    let mut b = book_in(words);
+    match filing::sheet(&mut b, product, months, settlements) {
+        Ok(()) => {
+            put_filed(words, &b);
+            0
+        }
+        Err(refusal) => refusal.into(),
     }
-    let next = filed.book;
-    put_filed(words, next);
-    0
 }
 
 #[unsafe(no_mangle)]
 pub extern "C" fn botskhela_end(words: &mut [u32; WORDS]) -> u32
     ensures { RespondsImage words.old end result words.new }
 {
-    let ended = ending::end(book_in(words));
-    if ended.refusal != 0 {
-        return ended.refusal;
+    let mut b = book_in(words);
+    match ending::end(&mut b) {
+        Ok(events) => {
+            put_ended(words, &b, events);
+            0
+        }
+        Err(refusal) => refusal.into(),
     }
-    let next = ended.book;
-    let events = ended.events;
-    put_ended(words, next, events);
-    0
 }
 
 #[unsafe(no_mangle)]
@@ -104,7 +103,5 @@ pub extern "C" fn botskhela_check(
 ) -> u32
     ensures { result ≡ image_check words.now product size month price }
 {
-    // By the check with its span: the compiler then puts the check into that one function, and makes no copy of the book for it.
-    let spanned = botskhela_check_span(words, product, size, month, price);
-    spanned.answer
+    grain::checked_number(checking::check(&book_in(words), product, size, month, price))
 }

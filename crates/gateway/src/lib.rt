@@ -8,7 +8,6 @@ ghost use Rattle.grain.specs.Bare.{bare_check};
 mod calls;
 mod spans;
 mod tallied;
-mod tally_words;
 
 pub use calls::{botskhela_check, botskhela_end, botskhela_found, botskhela_open, botskhela_sheet};
 pub use spans::{Spanned, botskhela_bare_highest, botskhela_bare_lowest, botskhela_check_span};
@@ -25,5 +24,5 @@ pub extern "C" fn botskhela_bare_check(
 ) -> u32
     ensures { result ≡ bare_check product size settlement amount spot price }
 {
-    grain::bare_number(grain::bare_check(product, size, settlement, amount, spot, price))
+    grain::checked_number(grain::bare_check(product, size, settlement, amount, spot, price))
 }

@@ -4,35 +4,29 @@ ghost use Rattle.grain.specs.Bare.{bare_answer, bare_span};
 ghost use Rattle.checking.specs.Checks.{checked_as};
 ghost use Rattle.gateway.specs.Calls.{with_span, image_span};
 
-use crate::botskhela_bare_check;
-use checking::Checked;
-use grain::verdicts::FREE;
-use grain::{Span, verdict_number, verdict_span};
+use grain::{Refusal, Span, Verdict, checked_number};
 use image::{WORDS, book_in};
 
-// An answer's number and the ends of its span, which are 0 where it is free or refused.
+// For C: an answer's number and the ends of its span, which are 0 where it is free or refused.
 #[repr(C)]
-#[derive(Clone, Copy)]
+#[derive(Clone, Copy, Debug, PartialEq, Eq)]
 pub struct Spanned {
     pub answer: u32,
     pub lowest: u32,
     pub highest: u32,
 }
 
-// Two zeros where the bare check is free or refused, which have the lower numbers.
-// By the export, not by grain, as in the check through a tally.
-fn bare_span(product: u32, size: u32, settlement: u32, amount: u32, spot: u32, price: u32) -> Span
-    ensures { result ≡ bare_span (bare_answer product size settlement amount spot price) }
+// Two zeros where a check is free or refused.
+fn span_of(checked: Result<Verdict, Refusal>) -> Span
+    ensures { result ≡ bare_span checked }
 {
-    if botskhela_bare_check(product, size, settlement, amount, spot, price) <= FREE {
-        return Span {
-            lowest: 0,
-            highest: 0,
-        };
+    match checked {
+        Ok(verdict) => verdict.span().unwrap_or_default(),
+        Err(_) => Span::default(),
     }
-    Span::by(grain::tick(product, size), settlement, amount)
 }
 
+// An end each: C can take one of the two from a function, and no pair.
 #[unsafe(no_mangle)]
 pub extern "C" fn botskhela_bare_lowest(
     product: u32,
@@ -44,8 +38,7 @@ pub extern "C" fn botskhela_bare_lowest(
 ) -> u32
     ensures { result ≡ (bare_span (bare_answer product size settlement amount spot price)).lowest }
 {
-    let span = bare_span(product, size, settlement, amount, spot, price);
-    span.lowest
+    span_of(grain::bare_check(product, size, settlement, amount, spot, price)).lowest
 }
 
 #[unsafe(no_mangle)]
@@ -59,27 +52,19 @@ pub extern "C" fn botskhela_bare_highest(
 ) -> u32
     ensures { result ≡ (bare_span (bare_answer product size settlement amount spot price)).highest }
 {
-    let span = bare_span(product, size, settlement, amount, spot, price);
-    span.highest
+    span_of(grain::bare_check(product, size, settlement, amount, spot, price)).highest
 }
 
-fn with_span(checked: Checked) -> Spanned
-    ensures { result ≡ with_span (checked_as checked) }
-{
-    match checked {
-        Checked::Is(verdict) => {
-            let span = verdict_span(verdict);
-            Spanned {
-                answer: verdict_number(verdict),
-                lowest: span.lowest,
-                highest: span.highest,
-            }
+impl From<Result<Verdict, Refusal>> for Spanned {
+    ghost from_gives = { λ checked spanned. spanned ≡ with_span (checked_as checked) };
+
+    fn from(checked: Result<Verdict, Refusal>) -> Spanned {
+        let span = span_of(checked);
+        Spanned {
+            answer: checked_number(checked),
+            lowest: span.lowest,
+            highest: span.highest,
         }
-        Checked::Refused(n) => Spanned {
-            answer: n,
-            lowest: 0,
-            highest: 0,
-        },
     }
 }
 
@@ -93,5 +78,5 @@ pub extern "C" fn botskhela_check_span(
 ) -> Spanned
     ensures { result ≡ image_span words.now product size month price }
 {
-    with_span(checking::check(book_in(words), product, size, month, price))
+    checking::check(&book_in(words), product, size, month, price).into()
 }
