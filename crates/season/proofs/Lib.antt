@@ -1,7 +1,8 @@
+pub mod FromFn
 pub mod Words
 pub mod Shape
-pub mod Answers
-pub mod Reading
-pub mod LineCases
-pub mod Pieces
+pub mod Limits
 pub mod Decimals
+pub mod LineEnd
+pub mod LineCases
+pub mod Reading

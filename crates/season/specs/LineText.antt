@@ -1,9 +1,8 @@
 -- The text of a season line, as bytes.
-use Rattle.std.specs.Prelude.{ℕ, zero, suc, ◌+◌, ◌/◌, ◌%◌, ◌≤◌, ◌≡◌, cond, List, [], ◌∷◌, ◌++◌, ltb, take}
+use Rattle.std.specs.Prelude.{ℕ, zero, suc, ◌+◌, ◌/◌, ◌%◌, cond, List, [], ◌∷◌, ◌++◌, ltb}
 use Prim.Native.Char.{code}
 use Prim.Native.String.{String, [] as []ˢ, ◌∷◌ as ◌∷ˢ◌}
 use Rattle.grain.specs.Margin.{Outcome, refused, gives}
-use Rattle.season.specs.declared.text.Text.{Text}
 
 -- the codes of a text's characters
 abbrev pub ascii : String → List ℕ
@@ -25,13 +24,11 @@ spaced [] = []
 spaced (n ∷ []) = decimal n
 spaced (n ∷ m ∷ ns) = decimal n ++ ascii " " ++ spaced (m ∷ ns)
 
+-- the line without its end
+unfoldable pub shown : Outcome → List ℕ
+shown (gives values) = spaced values
+shown (refused n) = ascii "refused " ++ decimal n
+
 unfoldable pub line_text : Outcome → List ℕ
 line_text (gives values) = spaced values ++ ascii "\n"
 line_text (refused n) = ascii "refused " ++ decimal n ++ ascii "\n"
-
-abbrev pub text_in : Text → List ℕ
-text_in t = take t.len t.bytes
-
--- the text is these bytes, and is within its array
-abbrev pub Holds : Text → List ℕ → Type 0
-Holds t bytes = (text_in t ≡ bytes) × (t.len ≤ 33)

@@ -1,14 +1,14 @@
 -- The season file, a list of bytes, and the line that `season` writes for it.
-use Rattle.std.specs.Prelude.{ℕ, zero, suc, ◌+◌, ◌*◌, ◌/◌, ◌%◌, Bool, not, ◌&&◌, ◌||◌, cond, List, [], ◌∷◌, ltb, eqb, length, get_or}
+use Rattle.std.specs.Prelude.{ℕ, zero, suc, ◌+◌, ◌*◌, ◌/◌, ◌%◌, Bool, not, ◌&&◌, ◌||◌, cond, List, [], ◌∷◌, ltb, eqb, length, get_or, Result}
 use Rattle.grain.specs.Lists.{every, is_ascending}
 use Rattle.grain.specs.Products.{is_product}
 use Rattle.grain.specs.Prices.{is_settlement}
 use Rattle.grain.specs.Dates.{is_date}
-use Rattle.grain.specs.Margin.{Outcome, refused, gives}
+use Rattle.grain.specs.Margin.{Outcome, refused, gives, outcome_of}
 use Rattle.grain.specs.Refusals.{misshapen, no_such_product, no_such_date, bad_price}
 use Rattle.grain.specs.Amounts.{window_length, expanded_of, season_of}
-use Rattle.season.specs.declared.file.Line.{Line}
-use Rattle.season.specs.declared.file.Line.TheVariants.{Limits, Refused}
+use Rattle.grain.specs.declared.refusals.Refusal.{Refusal}
+use Rattle.season.specs.declared.file.SeasonLimits.{SeasonLimits}
 
 -- word k of the file: 32 bits, little-endian
 unfoldable pub word_at : List ℕ → ℕ → ℕ
@@ -22,6 +22,10 @@ word_at file k =
 unfoldable pub words_from : List ℕ → ℕ → ℕ → List ℕ
 words_from file k zero = []
 words_from file k (suc n) = word_at file k ∷ words_from file (suc k) n
+
+-- how many words a file has that is not misshapen
+abbrev pub file_words : ℕ
+file_words = 2 + 2 * window_length
 
 abbrev pub product_in : List ℕ → ℕ
 product_in file = word_at file 0
@@ -43,10 +47,13 @@ is_misshapen file =
 unfoldable pub is_date_word : ℕ → Bool
 is_date_word w = is_date (w / 10000) (w / 100 % 100) (w % 100)
 
--- the rule's number or values of a line
-abbrev pub line_as : Line → Outcome
-line_as (Limits product initial expanded) = gives (product ∷ initial ∷ expanded ∷ [])
-line_as (Refused n) = refused n
+-- the numbers of a line with limits
+abbrev pub values_of : SeasonLimits → List ℕ
+values_of s = s.product ∷ s.limits.initial ∷ s.limits.expanded ∷ []
+
+-- a file's limits or refusal as the rule says it
+abbrev pub line_as : Result SeasonLimits Refusal → Outcome
+line_as r = outcome_of values_of r
 
 -- the product stands before its limits
 abbrev pub with_product : ℕ → Outcome → Outcome

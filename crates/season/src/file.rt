@@ -1,135 +1,81 @@
-// The season file: its line's numbers, for any bytes.
-ghost use Rattle.std.specs.Prelude.{◌≡◌, ◌+◌, ◌*◌, ◌<◌, ◌≤◌, length, get_or};
-ghost use Rattle.grain.specs.Lists.{every, is_ascending};
-ghost use Rattle.grain.specs.Margin.{season_limits_as};
-ghost use Rattle.grain.specs.Amounts.{window_length};
-ghost use Rattle.season.specs.SeasonFile.{word_at, words_from, is_misshapen, is_date_word, line_as, with_product, season_line};
+// The season file: the limits that it gives, for any bytes.
+ghost use Rattle.std.specs.Prelude.{◌≡◌, ◌*◌, length};
+ghost use Rattle.std.specs.List.{list_all};
+ghost use Rattle.grain.specs.Lists.{is_ascending};
+ghost use Rattle.season.specs.SeasonFile.{file_words, words_from, is_date_word, line_as, season_line};
 
-use grain::refusals::{MISSHAPEN, NO_SUCH_DATE, NO_SUCH_PRODUCT};
-use grain::{SeasonLimits, WINDOW_LENGTH};
+use grain::{Limit, Refusal, WINDOW_LENGTH};
+use std::array;
 
-// The count that a season file gives, in the type of its words.
-const COUNT: u32 = WINDOW_LENGTH as u32;
+// A file is the product, the count, the dates and the settlements, 32 bits a word. These are the words at which they begin.
+const PRODUCT: usize = 0;
 
-// The words at which the dates and the settlements begin.
+const COUNT: usize = 1;
+
 const DATES: usize = 2;
 
 const SETTLEMENTS: usize = DATES + WINDOW_LENGTH;
 
-#[derive(Clone, Copy)]
-pub enum Line {
-    Limits {
-        product: u32,
-        initial: u32,
-        expanded: u32,
-    },
-    Refused(u32),
+const FILE_WORDS: usize = SETTLEMENTS + WINDOW_LENGTH;
+
+pub const FILE_BYTES: usize = 4 * FILE_WORDS;
+
+// A product with the limits of its new season.
+#[derive(Clone, Copy, Debug, PartialEq, Eq)]
+pub struct SeasonLimits {
+    pub product: u32,
+    pub limits: Limit,
 }
 
-fn byte(file: &[u8], at: usize) -> u32
-    requires { at < length file.now }
-    ensures { (result ≡ get_or file.now at 0) × (result < 256) }
+// The words of a file, little-endian.
+fn words_of(file: &[u8]) -> [u32; FILE_WORDS]
+    requires { length file.now ≡ 4 * file_words }
+    ensures { result ≡ words_from file.now 0 file_words }
 {
-    file[at] as u32
+    let (quads, _) = file.as_chunks::<4>();
+    array::from_fn(|k| u32::from_le_bytes(quads[k]))
 }
 
-// Word k of the file, little-endian.
-fn word(file: &[u8], k: usize) -> u32
-    requires { 4 * k + 3 < length file.now }
-    ensures { result ≡ word_at file.now k }
+#[tactic(auto, unfolding(crate::specs::SeasonFile::is_date_word))]
+fn is_date_word(word: u32) -> bool
+    ensures { result ≡ is_date_word word }
 {
-    let at = 4 * k;
-    let b0 = byte(file, at);
-    let b1 = byte(file, at + 1);
-    let b2 = byte(file, at + 2);
-    let b3 = byte(file, at + 3);
-    b0 + 256 * b1 + 65536 * b2 + 16777216 * b3
-}
-
-fn is_misshapen(file: &[u8]) -> bool
-    ensures { result ≡ is_misshapen file.now }
-{
-    if file.len() < 8 {
-        return true;
-    }
-    let count = word(file, 1);
-    if file.len() != 8 + 8 * (count as usize) {
-        return true;
-    }
-    count != COUNT
-}
-
-// A window's words from word `from` on.
-fn words(file: &[u8], from: usize) -> [u32; WINDOW_LENGTH]
-    requires { 4 * (from + window_length) ≤ length file.now }
-    ensures { result ≡ words_from file.now from window_length }
-{
-    let mut out = [0u32; WINDOW_LENGTH];
-    let mut i = 0;
-    while i < WINDOW_LENGTH {
-        out[i] = word(file, from + i);
-        i += 1;
-    }
-    out
+    grain::is_date(word / 10000, word / 100 % 100, word % 100)
 }
 
 fn are_dates(words: &[u32]) -> bool
-    ensures { result ≡ every is_date_word words.now }
+    ensures { result ≡ list_all is_date_word words.now }
 {
-    let mut i = 0;
-    while i < words.len() {
-        let w = words[i];
-        if !grain::is_date(w / 10000, w / 100 % 100, w % 100) {
-            return false;
-        }
-        i += 1;
-    }
-    true
+    words.iter().all(|word| is_date_word(*word))
 }
 
 fn is_ascending(words: &[u32]) -> bool
     ensures { result ≡ is_ascending words.now }
 {
-    let mut i = 0;
-    while i + 1 < words.len() {
-        if words[i + 1] <= words[i] {
-            return false;
-        }
-        i += 1;
-    }
-    true
+    words.is_sorted_by(|before, after| before < after)
 }
 
-fn limits_line(product: u32, limits: SeasonLimits) -> Line
-    ensures { line_as result ≡ with_product product (season_limits_as limits) }
-{
-    let SeasonLimits::Are { initial, expanded } = limits else {
-        return Line::Refused(limits.refusal());
-    };
-    Line::Limits {
-        product,
-        initial,
-        expanded,
-    }
-}
-
-pub fn line_of(file: &[u8]) -> Line
+pub fn limits_in(file: &[u8]) -> Result<SeasonLimits, Refusal>
     ensures { line_as result ≡ season_line file.now }
 {
-    if is_misshapen(file) {
-        return Line::Refused(MISSHAPEN);
+    if file.len() != FILE_BYTES {
+        return Err(Refusal::Misshapen);
     }
-    let product = word(file, 0);
+    let words = words_of(file);
+    if words[COUNT] != WINDOW_LENGTH as u32 {
+        return Err(Refusal::Misshapen);
+    }
+    let product = words[PRODUCT];
     if !grain::is_product(product) {
-        return Line::Refused(NO_SUCH_PRODUCT);
+        return Err(Refusal::NoSuchProduct);
     }
-    let dates = words(file, DATES);
-    if !are_dates(&dates) {
-        return Line::Refused(NO_SUCH_DATE);
+    let dates = &words[DATES..SETTLEMENTS];
+    if !are_dates(dates) {
+        return Err(Refusal::NoSuchDate);
     }
-    if !is_ascending(&dates) {
-        return Line::Refused(NO_SUCH_DATE);
+    if !is_ascending(dates) {
+        return Err(Refusal::NoSuchDate);
     }
-    let settlements = words(file, SETTLEMENTS);
-    limits_line(product, grain::season_limits(product, &settlements))
+    let limits = grain::season_limits(product, &words[SETTLEMENTS..])?;
+    Ok(SeasonLimits { product, limits })
 }

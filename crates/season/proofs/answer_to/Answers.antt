@@ -1,6 +1,10 @@
-use mathlib.Core.Path.{◌∙◌, ap}
+use Rattle.std.proofs.Common.{sym, ap, ◌∙◌}
+use Rattle.season.specs.SeasonFile.{line_as}
 use Rattle.season.specs.LineText.{line_text}
+use Rattle.season.proofs.LineEnd.{shown-end}
 use Rattle.season.proofs.answer_to.Goals as goal
 
 pub returns : goal.returns
-returns c = (c.text_of.ensures.0 ∙ ap line_text c.line_of.ensures, c.text_of.ensures.1)
+returns c =
+    let line = shown-end (line_as c.limits_in.result) ∙ ap line_text c.limits_in.ensures in
+    simp (sym line) c.format.ensures.ok

@@ -1,27 +1,11 @@
-use borrow.Author.Rules.{rules}
-use mathlib.Core.Path.{sym, ◌∙◌}
-use borrow.Author.Tests.{lt-ltb, le-ltb}
-use Rattle.grain.proofs.Ascending.{ascending_next, ascending_end}
+use Rattle.std.proofs.Common.{rules, ◌∙◌, ap, nat_lt}
+use Rattle.std.proofs.lemmas.Fn.{always_returns_same}
+use Rattle.std.proofs.lemmas.List.{map-id}
+use Rattle.grain.specs.Lists.{is_ascending}
+use Rattle.grain.proofs.Adjacent.{ascending_from_adjacent}
 use Rattle.season.proofs.file.is_ascending.Goals as goal
-
-pub returns-then-words-i : goal.returns-then-words-i
-returns-then-words-i c =
-    let ws = c.args.words.now in
-    sym
-    (c.loop-i.invariant.1
-    ∙ ascending_next ws c.loop-i.i (search rules)
-    ∙ rw (le-ltb _ _ c.if-words-i.true))
-
-pub loop-i-preserved : goal.loop-i-preserved
-loop-i-preserved c =
-    let ws = c.args.words.now in (
-      search rules,
-      c.loop-i.invariant.1
-          ∙ ascending_next ws c.loop-i.i (search rules)
-          ∙ rw (lt-ltb _ _ c.if-words-i.false),
-    )
 
 pub returns : goal.returns
 returns c =
-    let ws = c.args.words.now in
-    sym (c.loop-i.invariant.1 ∙ ascending_end ws c.loop-i.i (search rules))
+    let adjacent = c.is_sorted_by.ensures.cases nat_lt (always_returns_same _ _ _ (λ a r f' k. search rules)) in
+    ascending_from_adjacent (λ n. n) c.args.words.now _ adjacent ∙ ap is_ascending (map-id c.args.words.now)
