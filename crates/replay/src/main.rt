@@ -1,139 +1,77 @@
-// Reads a history of calls from standard input and answers it line by line on standard output, both in blocks.
+// Reads a history of calls from standard input and answers it line by line on standard output.
 #![tactic(auto)]
 
-use crate::line::ENTRIES;
-use std::io::{Read, Result, Stdin};
+use std::alloc::Global;
+use std::io;
+use std::io::{BufRead, BufReader, BufWriter, Read, Write};
 
-mod asked;
-mod changes;
-mod line;
-mod names;
-mod questions;
-mod text;
+mod answer;
+mod call;
+mod shown;
+mod state;
 mod words;
 
-use asked::Asked;
-use changes::State;
-use line::{Entries, Line, MOST_NUMBERS, Numbers};
-use text::Buffer;
-use words::Word;
+use answer::Failure;
+use call::Call;
+use state::State;
+use words::ParseError;
 
-// Where the reading stands: the state, and what there is of a line and of a word in it.
-#[derive(Clone, Copy)]
-struct Reading {
-    state: State,
-    line: Line,
-    word: Word,
-}
+// How many bytes a read or a write moves.
+const BLOCK: usize = 65536;
 
-fn start() -> Reading {
-    Reading {
-        state: changes::fresh(),
-        line: Line::Blank,
-        word: Word::Empty,
+// An empty line and a remark have no answer.
+fn answer_line<W: Write>(
+    alloc: Global,
+    state: &mut State,
+    line: &[u8],
+    output: &mut W,
+) -> io::Result<()> {
+    if line.is_empty() || line.starts_with(b"#") {
+        return Ok(());
+    }
+    let outcome = match Call::parse(alloc, line) {
+        Ok(call) => state.answer(call),
+        Err(ParseError::NotCall) => Err(Failure::NotCall),
+        Err(ParseError::OutOfMemory(e)) => return Err(io::Error::from(e)),
+    };
+    match outcome {
+        Ok(answer) => writeln!(output, "{answer}"),
+        Err(failure) => writeln!(output, "{failure}"),
     }
 }
 
-// Reads on through a block, and answers each line that ends in it. A word is handed on as a copy, so that it can stay in registers.
-fn read_block(
-    r: Reading,
-    block: &[u8],
-    numbers: &mut Numbers,
-    months: &mut Entries,
-    settlements: &mut Entries,
-    out: &mut Buffer,
-) -> Reading {
-    let mut state = r.state;
-    let mut line = r.line;
-    let mut word = r.word;
-    let mut i = 0;
-    while i < block.len() {
-        let b = block[i];
-        if b == b'\n' {
-            let last = word;
-            match asked::ended(line, last, numbers, months, settlements) {
-                Asked::Change(change) => {
-                    state = changes::changed(change, state, numbers, months, settlements, out);
-                }
-                Asked::Question(question) => {
-                    let at = questions::told(question, state, numbers, out);
-                    state.at = at;
-                }
-            }
-            line = Line::Blank;
-            word = Word::Empty;
-        } else if b == b' ' {
-            let whole = word;
-            line = line::with_word(line, whole, numbers, months, settlements);
-            word = Word::Empty;
-        } else {
-            word = words::longer(word, b);
-        }
-        i += 1;
-    }
-    Reading { state, line, word }
-}
-
-#[derive(Clone, Copy)]
-struct Went {
-    reading: Reading,
-    on: bool,
-}
-
-// One read, and what it brought. Keeping the loop out of it keeps its proof small.
-fn turn(
-    stdin: &mut Stdin,
-    r: Reading,
-    numbers: &mut Numbers,
-    months: &mut Entries,
-    settlements: &mut Entries,
-    out: &mut Buffer,
-) -> Result<Went> {
-    let mut buffer = io::large_buffer();
-    let n = stdin.read(&mut buffer)?;
-    if n == 0 {
-        let last = read_block(r, b"\n", numbers, months, settlements, out);
-        return Ok(Went {
-            reading: last,
-            on: false,
-        });
-    }
-    let reading = read_block(r, &buffer[..n], numbers, months, settlements, out);
-    Ok(Went { reading, on: true })
-}
-
-// Reads until the input ends. A proved loop has to end, so it counts its turns down from a number that no run uses up.
-// What is answered goes out before a read that failed is told.
-fn main(rt: HostRuntime) -> Result<()> {
-    let mut stdin = rt.stdin();
-    let mut out = text::new_buffer(rt.stdout());
-    let mut numbers = [0u32; MOST_NUMBERS];
-    let mut months = [0u32; ENTRIES];
-    let mut settlements = [0u32; ENTRIES];
-    let mut r = start();
-    let mut turns = u64::MAX;
-    while turns > 0 {
-        match turn(
-            &mut stdin,
-            r,
-            &mut numbers,
-            &mut months,
-            &mut settlements,
-            &mut out,
-        ) {
-            Ok(t) => {
-                r = t.reading;
-                if !t.on {
-                    return text::flush(&mut out, r.state.at);
-                }
-                text::written(&out)?;
-            }
-            Err(e) => {
-                text::flush(&mut out, r.state.at)?;
-                return Err(e);
-            }
-        }
-        turns -= 1;
+// The end of the input ends its last line, as a newline does.
+fn answer_all<R: BufRead, W: Write>(
+    alloc: Global,
+    input: &mut R,
+    output: &mut W,
+) -> io::Result<()> {
+    let mut state = State::new();
+    let mut line = Vec::new(alloc);
+    // A proved loop has to end, so it counts up to a number that no input reaches.
+    for _ in 0..u64::MAX {
+        line.clear();
+        input.read_until(b'\n', &mut line)?;
+        let Some(whole) = line.strip_suffix(b"\n") else {
+            return answer_line(alloc, &mut state, &line, output);
+        };
+        answer_line(alloc, &mut state, whole, output)?;
     }
     Ok(())
 }
+
+// What is answered goes out before a read that failed is told.
+fn run<R: Read + Drop, W: Write + Drop>(alloc: Global, input: R, output: W) -> io::Result<()> {
+    let mut input = BufReader::with_capacity(alloc, BLOCK, input)?;
+    let mut output = BufWriter::with_capacity(alloc, BLOCK, output)?;
+    let answered = answer_all(alloc, &mut input, &mut output);
+    output.flush()?;
+    answered
+}
+
+fn main(rt: HostRuntime) -> io::Result<()> {
+    run(rt.alloc(), rt.stdin(), rt.stdout())
+}
+
+#[cfg(test)]
+mod tests;

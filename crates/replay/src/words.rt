@@ -1,61 +1,55 @@
-// A word of a line, byte by byte.
+// The words of a line, between which single spaces stand, and the numbers among them.
+use std::alloc::{AllocError, AllocFailed};
 
-#[derive(Clone, Copy)]
-pub enum Word {
-    Empty,
-    Number(u32),
-    // Up to eleven letters, each a digit to the base 32: a is 1, z is 26.
-    Name(u64),
-    // It begins with #.
-    Remark,
-    // No other kind, or a number that is too large.
-    Neither,
+// Why a line gives no call.
+#[derive(Clone, Copy, Debug, PartialEq, Eq)]
+pub enum ParseError {
+    NotCall,
+    OutOfMemory(AllocError),
 }
 
-fn longer_number(n: u32, b: u8) -> Word {
-    if b < b'0' {
-        return Word::Neither;
+impl From<AllocFailed<u32>> for ParseError {
+    fn from(e: AllocFailed<u32>) -> ParseError {
+        ParseError::OutOfMemory(AllocError::from(e))
     }
-    if b'9' < b {
-        return Word::Neither;
-    }
-    let value = (n as u64) * 10 + ((b - b'0') as u64);
-    if 4294967295 < value {
-        return Word::Neither;
-    }
-    Word::Number(value as u32)
 }
 
-fn longer_name(name: u64, b: u8) -> Word {
-    if b < b'a' {
-        return Word::Neither;
+// The first word, and the words after it where there is a space.
+pub fn split_word(words: &[u8]) -> (&[u8], Option<&[u8]>) {
+    match words.iter().position(|b| *b == b' ') {
+        Some(end) => (&words[..end], Some(&words[end + 1..])),
+        None => (words, None),
     }
-    if b'z' < b {
-        return Word::Neither;
-    }
-    // A twelfth letter.
-    if 1125899906842624 <= name {
-        return Word::Neither;
-    }
-    Word::Name(name * 32 + ((b - b'a') as u64) + 1)
 }
 
-fn begun(b: u8) -> Word {
-    if b == b'#' {
-        return Word::Remark;
+fn with_digit(n: u32, b: u8) -> Option<u32> {
+    if !b.is_ascii_digit() {
+        return None;
     }
-    if b <= b'9' {
-        return longer_number(0, b);
-    }
-    longer_name(0, b)
+    n.checked_mul(10)?.checked_add(u32::from(b - b'0'))
 }
 
-// The word with one more byte, which is no space and no end of a line.
-pub fn longer(word: Word, b: u8) -> Word {
-    match word {
-        Word::Empty => begun(b),
-        Word::Number(n) => longer_number(n, b),
-        Word::Name(name) => longer_name(name, b),
-        _ => word,
+// Digits alone, of a number that fits 32 bits.
+pub fn number(word: &[u8]) -> Result<u32, ParseError> {
+    if word.is_empty() {
+        return Err(ParseError::NotCall);
+    }
+    word.iter()
+        .try_fold(0, |n, b| with_digit(n, *b))
+        .ok_or(ParseError::NotCall)
+}
+
+// So many numbers, and no word more.
+pub fn numbers<const N: usize>(words: &[u8]) -> Result<[u32; N], ParseError> {
+    let mut all = [0; N];
+    let mut rest = Some(words);
+    for n in &mut all {
+        let (word, after) = split_word(rest.ok_or(ParseError::NotCall)?);
+        *n = number(word)?;
+        rest = after;
+    }
+    match rest {
+        Some(_) => Err(ParseError::NotCall),
+        None => Ok(all),
     }
 }
