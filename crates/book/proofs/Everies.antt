@@ -17,18 +17,6 @@ and_swap true false true d = refl
 and_swap true false false d = refl
 and_swap false b c d = refl
 
--- true, and the third of five after the others
-pub and_late : (a b w c d : Bool) → true and a and b and w and c and d ≡ ((a and b) and c and d) and w
-unfolding ◌and◌
-and_late true true true true true = refl
-and_late true true true true false = refl
-and_late true true true false d = refl
-and_late true true false true true = refl
-and_late true true false true false = refl
-and_late true true false false d = refl
-and_late true false w c d = refl
-and_late false b w c d = refl
-
 module _ {A : Type 0} (f : A → Bool) where
   every_joined : (l m : List A) → every f (l ++ m) ≡ every f l and every f m
   unfolding every ◌and◌

@@ -11,7 +11,7 @@ pub mod Founded
 pub mod Unfounded
 pub mod Views
 pub mod TodaysLimit
-pub mod Numbered
+pub mod SoundnessFirst
 pub mod Responses
 pub mod FoundingNumbers
 pub mod ProductTests

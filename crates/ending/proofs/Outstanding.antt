@@ -16,7 +16,7 @@ use Rattle.book.specs.declared.Book.{Book}
 use Rattle.book.specs.Book.{today_in, view_groups, view_common, view, view_held}
 use Rattle.book.specs.Numbers.{all_products}
 use Rattle.book.specs.Soundness.{are_all_in}
-use Rattle.book.proofs.Numbered.{sound_refusal, unsound-refusal}
+use Rattle.book.proofs.SoundnessFirst.{sound_refusal, unsound-refusal}
 use Rattle.book.proofs.Shown.{flat}
 
 module _ {A : Type 0} (f h : A → Bool) (opposite : (x : A) → h x ≡ not (f x)) where

@@ -20,7 +20,7 @@ use Rattle.record.specs.History.{SameFor}
 use Rattle.record.specs.Theorems.{after, history_of, is_refusal}
 use Rattle.record.proofs.Proved.{theorems}
 use Rattle.book.specs.Book.{view}
-use Rattle.book.proofs.Numbered.{unsound-refusal}
+use Rattle.book.proofs.SoundnessFirst.{unsound-refusal}
 use Rattle.book.proofs.Responses.{check_responds}
 use Rattle.book.proofs.Unfounded.{no_book-unsound}
 use Rattle.history.proofs.Agrees as agrees

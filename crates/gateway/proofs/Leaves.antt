@@ -15,7 +15,7 @@ use Rattle.book.specs.declared.Book.{Book}
 use Rattle.book.specs.Book.{view}
 use Rattle.book.specs.Calls.{Responds}
 use Rattle.book.specs.Founding.{Founds}
-use Rattle.book.proofs.Numbered.{unsound-refusal}
+use Rattle.book.proofs.SoundnessFirst.{unsound-refusal}
 use Rattle.image.specs.Image.{book_in}
 use Rattle.image.specs.Answers.{renewed_in, events_in}
 use Rattle.image.specs.Put.{Put}
@@ -89,16 +89,6 @@ module _ (ws : List ℕ) (c : Call) (a : Answer) (z : Book) (yes : is_accepted a
       }
 
 -- a founding
-pub refused_founding : (ws : List ℕ) (s : Start) (r : Refusal) → Founds s (Err r) → FoundsImage ws s (number_of r) ws
-refused_founding ws s r refuses =
-    record {
-      number = rw refuses;
-      state = λ e. cc (refuses, e);
-      renewed = λ e. cc (refuses, e);
-      events = λ e. cc (refuses, e);
-      unchanged = λ n e. refl;
-    }
-
 pub accepted_founding : (ws : List ℕ) (s : Start) (b : Book) → Founds s (Ok b) → (now : List ℕ) → Put b no_renewed no_events now
     → FoundsImage ws s 0 now
 accepted_founding ws s b founds now p =

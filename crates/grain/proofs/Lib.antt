@@ -1,5 +1,4 @@
 pub mod Adjacent
-pub mod Ascending
 pub mod Below
 pub mod Chains
 pub mod FactsOfDates

@@ -1,5 +1,5 @@
 -- Back from a number to the refusal that has it: no two refusals have one number, and none has 0.
-use Rattle.std.proofs.Common.{◌≡◌, refl, sym, ◌∙◌, ap, ℕ, false, List, [], ◌∷◌, get_or, eqb}
+use Rattle.std.proofs.Common.{◌≡◌, refl, ℕ, false, List, [], ◌∷◌, get_or, eqb}
 use Rattle.grain.specs.Refusals.{number_of}
 use Rattle.grain.specs.declared.refusals.Refusal.{Refusal}
 use Rattle.grain.specs.declared.refusals.Refusal.TheVariants.{Unsound, WrongPhase, NoSuchDate, NotLater, NoSuchProduct, Misshapen, BadMonth, BadPrice, ContractAbsent, BeyondLimit, AlreadyIn, SheetOutstanding, UnfitAmount, NotListed, TallyFull, LeftNotSmaller, UnknownEdition, GroupExpanded}
@@ -50,9 +50,6 @@ numbered_back TallyFull = refl
 numbered_back LeftNotSmaller = refl
 numbered_back UnknownEdition = refl
 numbered_back GroupExpanded = refl
-
-pub number_same : (r s : Refusal) → number_of r ≡ number_of s → r ≡ s
-number_same r s e = sym (numbered_back r) ∙ ap refusal_numbered e ∙ numbered_back s
 
 pub number_positive : (r : Refusal) → eqb (number_of r) 0 ≡ false
 number_positive Unsound = refl

@@ -13,7 +13,7 @@ use Rattle.record.specs.Record.{opening, tests, refusal}
 use Rattle.record.proofs.Cleared.{accepted_clear}
 use Rattle.book.specs.declared.Book.{Book}
 use Rattle.book.specs.Book.{opened_of, view_common, view}
-use Rattle.book.proofs.Numbered.{sound_refusal}
+use Rattle.book.proofs.SoundnessFirst.{sound_refusal}
 
 pub sound_opening : (b : Book) (d : Day) → is_sound (view b) ≡ true
     → refusal (view b) (opening d)

@@ -3,7 +3,7 @@ use Rattle.record.specs.Refusals.{when, first, not_later, left_not_smaller}
 use Rattle.record.specs.Record.{opening, refusal}
 use Rattle.record.specs.Opening.{is_not_later, is_left_not_smaller}
 use Rattle.book.specs.Book.{view}
-use Rattle.book.proofs.Numbered.{unsound-refusal}
+use Rattle.book.proofs.SoundnessFirst.{unsound-refusal}
 use Rattle.opening.proofs.Refused.{sound_opening}
 use Rattle.opening.proofs.TrueDays.{none_or_true}
 use Rattle.opening.proofs.refusals.refusal_of.Goals as goal
