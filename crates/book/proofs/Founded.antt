@@ -3,12 +3,13 @@ use Prim.Native.Nat.{ℕ, ◌<◌}
 use mathlib.Core.Path.{◌≡◌, refl, sym, ◌∙◌}
 use mathlib.Core.Bool.{true, false}
 use mathlib.Core.List.{List, map}
+use Rattle.std.specs.Prelude.{None}
 use lib.ListN.{length, get_or, replicate, get_or-replicate}
 use borrow.Author.Tests.{ltb-true, eq-eqb}
 use Rattle.grain.specs.Lists.{◌and◌, every}
 use Rattle.grain.specs.Products.{product_count, is_product}
 use Rattle.grain.specs.Amounts.{expanded_of, is_fit_founding}
-use Rattle.record.specs.State.{group_table, group_count, no_day}
+use Rattle.record.specs.State.{group_table, group_count}
 use Rattle.record.specs.Founding.{Start, limit_of, are_fit, found_product, found_group, founded}
 use Rattle.record.specs.History.{products_of}
 use Rattle.record.proofs.GroupTable.{small_products}
@@ -40,7 +41,7 @@ founded_items s p = record { limit = limits_from s p; window = empty_window; tod
 -- a book of which each product's items are those
 abbrev pub founded_book : Start → List Held → Book
 founded_book s items =
-    record { edition = s.edition; standings = replicate group_count no_standing; products = items; day = no_day; is_open = false }
+    record { edition = s.edition; standings = replicate group_count no_standing; products = items; opened = None; is_open = false }
 
 module _ (s : Start) (items : List Held) (each : (p : ℕ) → p < product_count → get_or items p no_items ≡ founded_items s p) where
   abbrev b : Book

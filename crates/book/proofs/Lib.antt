@@ -14,6 +14,8 @@ pub mod TodaysLimit
 pub mod SoundnessFirst
 pub mod Responses
 pub mod FoundingNumbers
+pub mod Phases
 pub mod ProductTests
 pub mod Items
 pub mod Defaults
+pub mod OpenDays

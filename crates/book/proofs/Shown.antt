@@ -15,7 +15,7 @@ use Rattle.record.specs.Sound.{is_sound_product, is_expanded, is_sound_group, is
 use Rattle.record.specs.History.{products_of}
 use Rattle.sheets.specs.Sheets.{sheet_in}
 use Rattle.book.specs.declared.Book.{Book}
-use Rattle.book.specs.Book.{no_items, no_standing, standing_in, today_in, last_in, level_of, opened_of, view_product, view_group, view_groups, view_common, view, view_held}
+use Rattle.book.specs.Book.{no_items, no_standing, standing_in, today_in, last_in, level_of, view_product, view_group, view_groups, view_common, view, view_held}
 use Rattle.book.specs.Numbers.{all_products, all_groups}
 use Rattle.book.specs.Soundness.{has_no_today, has_last, has_no_last, are_last_sound, is_mark_sound}
 use Rattle.book.proofs.Everies.{every_both, every_concat}
@@ -67,29 +67,29 @@ groups_shown b =
 pub sound_is : (b : Book)
     → is_sound (view b)
     ≡ (is_edition b.edition
-    and is_sound_date (opened_of b.day) b.is_open
+    and is_sound_date b.opened b.is_open
     and (every (λ g. is_mark_sound (has_marks b) (standing_in b g)) all_groups and every (λ p. is_sound_product (view_product b p)) all_products)
     and (b.is_open || every (λ p. not (is_some (sheet_in (today_in b p)))) all_products)
-    and ((is_some (opened_of b.day) and every (λ p. is_some (sheet_in (last_in b p))) all_products)
+    and ((is_some b.opened and every (λ p. is_some (sheet_in (last_in b p))) all_products)
     || every (λ p. not (is_some (sheet_in (last_in b p)))) all_products))
 unfolding is_sound view view_common view_held
 sound_is b =
     ap₂ ◌and◌
     (ap₂ ◌and◌
-    (ap ((is_edition b.edition and is_sound_date (opened_of b.day) b.is_open) and◌) (groups_shown b))
+    (ap ((is_edition b.edition and is_sound_date b.opened b.is_open) and◌) (groups_shown b))
     (ap (b.is_open ||◌) (flat b (λ q. not (is_some q.today)))))
     (ap₂ ◌||◌
-    (ap (is_some (opened_of b.day) and◌) (flat b (λ q. is_some q.last)))
+    (ap (is_some b.opened and◌) (flat b (λ q. is_some q.last)))
     (flat b (λ q. not (is_some q.last))))
 
 -- the same, with the tests of all places of an array as one
 pub sound_tests : (b : Book) → length b.products ≡ 8 → length b.standings ≡ 5
     → is_sound (view b)
     ≡ (is_edition b.edition
-    and is_sound_date (opened_of b.day) b.is_open
+    and is_sound_date b.opened b.is_open
     and (list_all (is_mark_sound (has_marks b)) b.standings and every (λ p. is_sound_product (view_product b p)) all_products)
     and (b.is_open || list_all has_no_today b.products)
-    and are_last_sound b.day b.products)
+    and are_last_sound b.opened b.products)
 sound_tests b eight five =
     sound_is b
     ∙ rw

@@ -1,8 +1,8 @@
 -- What a sound book says of each product and of its date.
 use Prim.Native.Nat.{ℕ, ◌<◌, ◌≤◌}
 use mathlib.Core.Path.{◌≡◌, refl, sym, ◌∙◌}
-use mathlib.Core.Bool.{Bool, true, false, not, ◌&&◌, cond}
-use Rattle.std.specs.Prelude.{Option, Some, None, unwrap_or}
+use mathlib.Core.Bool.{Bool, true, false, cond}
+use Rattle.std.specs.Prelude.{Some, None}
 use native.Mathlib.Omega.{arith}
 use lib.Dec.{leb, eqb}
 use lib.ListN.{length}
@@ -10,9 +10,9 @@ use borrow.Author.Tests.{leb-true, leb-false, lt-leb, eqb-true, ne_eqb}
 use Rattle.grain.specs.Lists.{◌and◌, every, is_ascending}
 use Rattle.grain.specs.Products.{product_count}
 use Rattle.grain.specs.Prices.{is_settlement}
-use Rattle.grain.proofs.Tests.{&&-left, &&-right, and_left, and_right}
+use Rattle.grain.proofs.Tests.{and_left, and_right}
 use Rattle.record.specs.declared.Day.{Day}
-use Rattle.record.specs.State.{no_day, day_of}
+use Rattle.record.specs.State.{day_of}
 use Rattle.record.specs.Opening.{is_true_day}
 use Rattle.record.specs.Sound.{is_sound_sheet, is_sound_window, is_sound_product, is_sound_date, is_sound}
 use Rattle.sheets.specs.declared.sheet.Sheet.{Sheet}
@@ -22,7 +22,7 @@ use Rattle.windows.specs.Windows.{shown}
 use Rattle.book.specs.Book.{size_of, window_of}
 use Rattle.windows.proofs.Shown.{too_long}
 use Rattle.book.specs.declared.Book.{Book}
-use Rattle.book.specs.Book.{window_in, today_in, last_in, is_no_day, opened_of, view_product, view_common, view, view_held}
+use Rattle.book.specs.Book.{window_in, today_in, last_in, view_product, view_common, view, view_held}
 use Rattle.book.proofs.SheetsIn.{none-listed}
 use Rattle.book.proofs.Shown.{sound_is}
 use Rattle.book.proofs.Numbers.{each_passes}
@@ -76,7 +76,7 @@ facts b p t =
     record { short = and_left _ _ w; window = and_right _ _ w; today = and_right _ _ t₅; last = and_right _ _ t }
 
 module _ (b : Book) (sound : is_sound (view b) ≡ true) where
-  date_sound : is_sound_date (opened_of b.day) b.is_open ≡ true
+  date_sound : is_sound_date b.opened b.is_open ≡ true
   date_sound = and_right _ _ (and_left _ _ (and_left _ _ (and_left _ _ (sym (sound_is b) ∙ sound))))
 
   module _ (p : ℕ) (l : p < product_count) where
@@ -101,44 +101,16 @@ module _ (b : Book) (sound : is_sound (view b) ≡ true) where
     pub today_ascending : is_ascending (months_of (contracts_of (today_in b p))) ≡ true
     today_ascending = sheet_ascending p (today_in b p) (facts b p product_sound).today
 
-  pub open_day : b.is_open ≡ true → opened_of b.day ≡ Some b.day
+  -- a day is open only where there is one
+  pub open_day : b.is_open ≡ true → b.opened ≡ None → ⊥
   unfolding is_sound_date
-  open_day e = go (is_no_day b.day) date_sound
-    where
-      go : (n : Bool) → is_sound_date (cond n None (Some b.day)) b.is_open ≡ true
-          → cond n None (Some b.day) ≡ Some b.day
-      go true t = let z : not b.is_open ≡ true = t in cc
-      go false t = refl
+  open_day is none = let z : ◌≡◌ {A = Bool} false true = rw (none, is) at date_sound in cc
 
-  pub true_day : (d : Day) → opened_of b.day ≡ Some d → is_true_day b.day ≡ true
+  pub true_day : (d : Day) → b.opened ≡ Some d → is_true_day d ≡ true
   unfolding is_sound_date
-  true_day d e = go (is_no_day b.day) date_sound e
-    where
-      go : (n : Bool) → is_sound_date (cond n None (Some b.day)) b.is_open ≡ true
-          → cond n None (Some b.day) ≡ Some d → is_true_day b.day ≡ true
-      go true t e = let z : ◌≡◌ {A = Option Day} None (Some d) = e in cc
-      go false t e = t
-
--- four zeros are no day
-zeros : (y m k l : ℕ) → (eqb y 0 && eqb m 0 && eqb k 0 && eqb l 0) ≡ true
-    → ◌≡◌ {A = Day} (record { year = 0; month = 0; day = 0; left = 0 }) (record { year = y; month = m; day = k; left = l })
-zeros y m k l t =
-    let t₃ = &&-left (eqb y 0 && eqb m 0 && eqb k 0) (eqb l 0) t in
-    let t₂ = &&-left (eqb y 0 && eqb m 0) (eqb k 0) t₃ in
-    rw (eqb-true y 0 (&&-left (eqb y 0) (eqb m 0) t₂), eqb-true m 0 (&&-right (eqb y 0) (eqb m 0) t₂), eqb-true k 0 (&&-right (eqb y 0 && eqb m 0) (eqb k 0) t₃), eqb-true l 0 (&&-right (eqb y 0 && eqb m 0 && eqb k 0) (eqb l 0) t))
-
-pub day_is : (b : Book) → day_of (view_common b) ≡ b.day
-unfolding view_common
-day_is b = go (is_no_day b.day) refl
-  where
-    go : (n : Bool) → is_no_day b.day ≡ n → unwrap_or (cond n None (Some b.day)) no_day ≡ b.day
-    go true e = zeros b.day.year b.day.month b.day.day b.day.left e
-    go false e = refl
+  true_day d e = rw e at date_sound
 
 -- the day of the view
-pub day_in : (b : Book) → day_of (view b).common ≡ b.day
-unfolding view
-day_in b = day_is b
-
-pub open_true : (b : Book) → is_sound (view b) ≡ true → b.is_open ≡ true → is_true_day b.day ≡ true
-open_true b sound is = true_day b sound b.day (open_day b sound is)
+pub day_in : (b : Book) (d : Day) → b.opened ≡ Some d → day_of (view b).common ≡ d
+unfolding view view_common
+day_in b d e = rw e

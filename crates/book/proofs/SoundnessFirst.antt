@@ -1,4 +1,4 @@
--- Whether a book is sound is a call's first test: an unsound one refuses, and past it the call's own tests decide.
+-- Whether a book is sound is a call's first test: an unsound one refuses.
 use mathlib.Core.Path.{◌≡◌}
 use mathlib.Core.Bool.{true, false}
 use Rattle.std.specs.Prelude.{Some}
@@ -6,10 +6,6 @@ use Rattle.record.specs.Refusals.{first, unsound}
 use Rattle.record.specs.State.{Record}
 use Rattle.record.specs.Sound.{is_sound}
 use Rattle.record.specs.Record.{Call, tests, refusal}
-
-pub sound_refusal : (r : Record) (c : Call) → is_sound r ≡ true → refusal r c ≡ first (tests r c)
-unfolding refusal
-sound_refusal r c t = rw t
 
 pub unsound-refusal : (r : Record) (c : Call) → is_sound r ≡ false → refusal r c ≡ Some unsound
 unfolding refusal

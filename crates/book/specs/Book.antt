@@ -1,6 +1,5 @@
 -- What a book means: the Record's contents that it holds. Places beyond a count are not read.
-use Rattle.std.specs.Prelude.{ℕ, suc, Bool, true, false, ◌&&◌, cond, List, [], ◌∷◌, map, eqb, get_or, Option, Some, None}
-use Rattle.record.specs.declared.Day.{Day}
+use Rattle.std.specs.Prelude.{ℕ, suc, Bool, true, false, List, [], ◌∷◌, map, get_or}
 use Rattle.record.specs.State.{Level, initial, expanded, Product, Group, Common, Record, group_table}
 use Rattle.grain.specs.declared.amounts.Limit.{Limit}
 use Rattle.sheets.specs.declared.sheet.Sheet.{Sheet}
@@ -53,13 +52,6 @@ abbrev pub level_of : Bool → Level
 level_of true = expanded
 level_of false = initial
 
-abbrev pub is_no_day : Day → Bool
-is_no_day d = eqb d.year 0 && eqb d.month 0 && eqb d.day 0 && eqb d.left 0
-
--- no date is four zeros; a day of which only some are 0 is damage, and is shown
-abbrev pub opened_of : Day → Option Day
-opened_of d = cond (is_no_day d) None (Some d)
-
 -- product p of what a book holds of it
 unfoldable pub view_held : Held → ℕ → Product
 view_held h p =
@@ -89,7 +81,7 @@ view_groups b g [] = []
 view_groups b g (ps ∷ l) = view_group b g ps ∷ view_groups b (suc g) l
 
 unfoldable pub view_common : Book → Common
-view_common b = record { edition = b.edition; opened = opened_of b.day; is_open = b.is_open }
+view_common b = record { edition = b.edition; opened = b.opened; is_open = b.is_open }
 
 unfoldable pub view : Book → Record
 view b = record { common = view_common b; groups = view_groups b 0 group_table }

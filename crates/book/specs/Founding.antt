@@ -3,7 +3,7 @@ use Rattle.std.specs.Prelude.{◌≡◌, false, replicate, Some, None, Result, O
 use Rattle.grain.specs.Products.{product_count}
 use Rattle.grain.specs.Refusals.{number_of}
 use Rattle.grain.specs.declared.refusals.Refusal.{Refusal}
-use Rattle.record.specs.State.{group_count, no_day}
+use Rattle.record.specs.State.{group_count}
 use Rattle.record.specs.Founding.{Start, founding_refusal, founded}
 use Rattle.sheets.specs.Sheets.{empty_sheet}
 use Rattle.windows.specs.Windows.{empty_window}
@@ -21,7 +21,7 @@ no_book =
       edition = 0;
       standings = replicate group_count no_standing;
       products = replicate product_count empty_items;
-      day = no_day;
+      opened = None;
       is_open = false;
     }
 

@@ -3,4 +3,5 @@ pub mod Calls
 pub mod Dates
 pub mod Founding
 pub mod Numbers
+pub mod Phase
 pub mod Soundness

@@ -1,6 +1,6 @@
 -- What the soundness test asks of one product and of one group.
 -- For the functions inside, but for are_all_in, which the end of a day asks: what the test promises is the Record's is_sound alone.
-use Rattle.std.specs.Prelude.{Bool, not, ◌&&◌, ◌||◌, List, is_some}
+use Rattle.std.specs.Prelude.{Bool, not, ◌&&◌, ◌||◌, List, Option, is_some}
 use Rattle.std.specs.List.{list_all}
 use Rattle.grain.specs.Lists.{◌and◌, every}
 use Rattle.record.specs.declared.Day.{Day}
@@ -8,7 +8,7 @@ use Rattle.sheets.specs.Sheets.{sheet_in}
 use Rattle.book.specs.declared.Standing.{Standing}
 use Rattle.book.specs.declared.Book.{Book}
 use Rattle.book.specs.declared.product.Product.{Product as Held}
-use Rattle.book.specs.Book.{opened_of, today_in}
+use Rattle.book.specs.Book.{today_in}
 use Rattle.book.specs.Numbers.{all_products}
 
 -- a product's sheets are there, or not
@@ -29,8 +29,8 @@ abbrev pub are_all_in : Book → Bool
 are_all_in b = every (λ p. is_some (sheet_in (today_in b p))) all_products
 
 -- the last ended sheets are all there, with a date, or none is
-abbrev pub are_last_sound : Day → List Held → Bool
-are_last_sound d items = (is_some (opened_of d) and list_all has_last items) || list_all has_no_last items
+abbrev pub are_last_sound : Option Day → List Held → Bool
+are_last_sound opened items = (is_some opened and list_all has_last items) || list_all has_no_last items
 
 -- a mark only on an expanded group, where there are marks
 abbrev pub is_mark_sound : Bool → Standing → Bool

@@ -1,11 +1,22 @@
-// The trade date of a day that a book holds.
-ghost use Rattle.std.specs.Prelude.{◌≡◌};
+// The trade date of a day that a book holds, and the open day with its own.
+ghost use Rattle.std.specs.Prelude.{◌≡◌, true};
+ghost use Rattle.record.specs.Opening.{is_true_day};
+ghost use Rattle.record.specs.State.{trade_date};
 ghost use Rattle.book.specs.Dates.{trade_date_of};
 
 use grain::TradeDate;
 use record::Day;
 
-// A day whose year is past 2098 or whose month is none has no trade date; nor has the day of a book that was never opened.
+// The open day of a sound book.
+#[derive(Clone, Copy, Debug, PartialEq, Eq)]
+pub struct OpenDay {
+    pub day: Day,
+    pub date: TradeDate,
+    pub ghost is_true: { is_true_day day ≡ true },
+    pub ghost dated: { date ≡ trade_date day },
+}
+
+// A day whose year is past 2098 or whose month is none has no trade date.
 // Whether it is a date, soundness judges: here the calendar is not asked again.
 pub fn trade_date(d: Day) -> Option<TradeDate>
     ensures { result ≡ trade_date_of d }

@@ -5,9 +5,8 @@ ghost use Rattle.book.specs.Book.{view};
 ghost use Rattle.book.specs.Founding.{no_book, Founds};
 
 use crate::editions::is_edition;
-use crate::{Book, Product, Standing};
+use crate::{Book, Product};
 use grain::{Limit, PRODUCT_COUNT, Refusal};
-use record::{Day, GROUP_COUNT};
 
 fn are_fit(limits: &[u32; PRODUCT_COUNT]) -> bool
     ensures { result ≡ are_fit limits.now }
@@ -23,13 +22,7 @@ impl Book {
     pub fn none() -> Book
         ensures { result ≡ no_book }
     {
-        Book {
-            edition: 0,
-            standings: [Standing::default(); GROUP_COUNT],
-            products: [Product::none(); PRODUCT_COUNT],
-            day: Day::default(),
-            is_open: false,
-        }
+        Book::default()
     }
 }
 
@@ -48,10 +41,8 @@ fn fresh(edition: u32, limits: [u32; PRODUCT_COUNT]) -> Book
     }
     Book {
         edition,
-        standings: [Standing::default(); GROUP_COUNT],
         products,
-        day: Day::default(),
-        is_open: false,
+        ..Book::none()
     }
 }
 

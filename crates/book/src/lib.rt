@@ -9,15 +9,16 @@ mod editions;
 mod founding;
 mod groups;
 mod limits;
+mod phase;
 mod product;
 mod soundness;
 
-pub use dates::trade_date;
+pub use dates::{OpenDay, trade_date};
 pub use editions::{EDITION_2014, EDITION_2023, has_marks};
 pub use founding::found;
 pub use groups::{group_of, products_before};
 pub use product::Product;
-pub use soundness::{is_no_day, is_true_day};
+pub use soundness::is_true_day;
 
 // A group's level, and the rule's mark: held on the ended day before, with a move of exactly E, and no new limits since.
 #[derive(Clone, Copy, Debug, Default, PartialEq, Eq)]
@@ -26,14 +27,14 @@ pub struct Standing {
     pub marked: bool,
 }
 
-#[derive(Clone, Copy, Debug, PartialEq, Eq)]
+#[derive(Clone, Copy, Debug, Default, PartialEq, Eq)]
 pub struct Book {
     // The edition of the rule, by year. An image from C can hold any number, which soundness then judges.
     pub edition: u32,
     pub standings: [Standing; GROUP_COUNT],
     pub products: [Product; PRODUCT_COUNT],
-    // The last opened day; all four fields are 0 where there is none, as in an image from C, which can hold any.
-    pub day: Day,
+    // The last opened day. An image from C can hold any, which soundness then judges.
+    pub opened: Option<Day>,
     // A day is open.
     pub is_open: bool,
 }

@@ -12,7 +12,7 @@ use grain::{Limit, WINDOW_LENGTH};
 use sheets::Sheet;
 use windows::Window;
 
-#[derive(Clone, Copy, Debug, PartialEq, Eq)]
+#[derive(Clone, Copy, Debug, Default, PartialEq, Eq)]
 pub struct Product {
     pub limit: Limit,
     pub window: Window,
@@ -45,12 +45,7 @@ impl Product {
     pub(crate) fn none() -> Product
         ensures { result ≡ empty_items }
     {
-        Product {
-            limit: Limit::default(),
-            window: Window::none(),
-            today: Sheet::none(),
-            last: Sheet::none(),
-        }
+        Product::default()
     }
 
     pub fn is_sound(&self, product: u32) -> bool

@@ -4,19 +4,13 @@ ghost use Rattle.std.specs.List.{list_all};
 ghost use Rattle.grain.specs.Lists.{every};
 ghost use Rattle.record.specs.Opening.{is_true_day};
 ghost use Rattle.record.specs.Sound.{is_sound_date, is_sound_product, is_sound};
-ghost use Rattle.book.specs.Book.{no_items, is_no_day, opened_of, view_held, view};
+ghost use Rattle.book.specs.Book.{no_items, view_held, view};
 ghost use Rattle.book.specs.Numbers.{all_products};
 ghost use Rattle.book.specs.Soundness.{is_mark_sound, has_today, has_last, has_no_today, has_no_last, are_all_in, are_last_sound};
 
 use crate::editions::{has_marks, is_edition};
 use crate::{Book, Product, Standing};
 use record::Day;
-
-pub fn is_no_day(d: Day) -> bool
-    ensures { result ≡ is_no_day d }
-{
-    d == Day::default()
-}
 
 // A date, with left at most the days remaining in its month.
 pub fn is_true_day(d: Day) -> bool
@@ -26,13 +20,13 @@ pub fn is_true_day(d: Day) -> bool
 }
 
 // A date where a day is open.
-fn is_sound_date(d: Day, is_open: bool) -> bool
-    ensures { result ≡ is_sound_date (opened_of d) is_open }
+fn is_sound_date(opened: Option<Day>, is_open: bool) -> bool
+    ensures { result ≡ is_sound_date opened is_open }
 {
-    if is_no_day(d) {
-        return !is_open;
+    match opened {
+        Some(day) => is_true_day(day),
+        None => !is_open,
     }
-    is_true_day(d)
 }
 
 // A mark only on an expanded group, and none in an edition without marks.
@@ -77,13 +71,13 @@ fn is_phase_sound(is_open: bool, products: &[Product]) -> bool
 }
 
 // The last ended sheets are all there, with a date, or none is.
-fn are_last_sound(d: Day, products: &[Product]) -> bool
-    ensures { result ≡ are_last_sound d products.now }
+fn are_last_sound(opened: Option<Day>, products: &[Product]) -> bool
+    ensures { result ≡ are_last_sound opened products.now }
 {
     if products.iter().all(|q| q.last.is_none()) {
         return true;
     }
-    if is_no_day(d) {
+    if opened.is_none() {
         return false;
     }
     products.iter().all(|q| !q.last.is_none())
@@ -103,7 +97,7 @@ impl Book {
         if !is_edition(self.edition) {
             return false;
         }
-        if !is_sound_date(self.day, self.is_open) {
+        if !is_sound_date(self.opened, self.is_open) {
             return false;
         }
         if !are_marks_sound(has_marks(self.edition), &self.standings) {
@@ -115,6 +109,6 @@ impl Book {
         if !is_phase_sound(self.is_open, &self.products) {
             return false;
         }
-        are_last_sound(self.day, &self.products)
+        are_last_sound(self.opened, &self.products)
     }
 }

@@ -1,16 +1,18 @@
 -- What refuses a conversion of a book, and the book that an accepted one leaves.
-use Rattle.std.proofs.Common.{ℕ, ◌≡◌, refl, sym, ◌∙◌, ap, Bool, true, false, cond, eqb, length}
+use Rattle.std.proofs.Common.{ℕ, ◌≡◌, refl, sym, ◌∙◌, ap, Bool, true, false, cond, eqb, length, List, [], ◌∷◌}
 use Rattle.std.specs.Prelude.{◌&&◌, Some, None}
 use Rattle.std.specs.List.{list_any}
 use Rattle.grain.proofs.Every.{any_mapped}
-use Rattle.record.specs.Refusals.{wrong_phase}
+use Rattle.record.specs.Refusals.{Test, when}
 use Rattle.record.specs.State.{Group, group_count}
-use Rattle.record.specs.Sound.{is_sound, is_expanded}
+use Rattle.record.specs.Sound.{is_expanded}
 use Rattle.book.specs.declared.Book.{Book}
 use Rattle.book.specs.Book.{no_standing, level_of, standing_in, view_group, view_common, view, view_held}
 use Rattle.book.specs.Numbers.{all_groups}
 use Rattle.book.specs.declared.Standing.{Standing}
+use Rattle.book.specs.Phase.{phase_refusal}
 use Rattle.book.proofs.Numbers.{values_are}
+use Rattle.book.proofs.Phases.{refused_early, decided_late}
 use Rattle.book.proofs.Views.{shown_group, groups_are}
 use Rattle.converting.specs.Conversion.{group_expanded, has_expanded, conversion_tests, conversion_refusal, converted}
 use Rattle.converting.specs.Converts.{with_2023}
@@ -32,12 +34,20 @@ expanded_is b long =
     ∙ sym (any_mapped (λ g. (standing_in b g).expanded) (standing_in b) (λ (s : Standing). s.expanded) (λ g. refl) all_groups)
     ∙ ap (list_any (λ (s : Standing). s.expanded)) (sym (values_are no_standing (standing_in b) group_count b.standings long (λ i l. refl)))
 
--- past soundness, the conversion's own tests decide
-pub sound_conversion : (b : Book) → is_sound (view b) ≡ true
-    → conversion_refusal (view b)
-    ≡ cond b.is_open (Some wrong_phase) (cond (eqb b.edition 2014 && has_expanded (view b).groups) (Some group_expanded) None)
+-- the tests after the first two
+abbrev edition_tests : Book → List Test
+edition_tests b = when (eqb (view b).common.edition 2014 && has_expanded (view b).groups) group_expanded ∷ []
+
+-- refused by the first two
+pub phase_refuses : (b : Book) (n : ℕ) → phase_refusal false (view b) ≡ Some n → conversion_refusal (view b) ≡ Some n
+unfolding conversion_tests
+phase_refuses b n e = refused_early (view b) _ n (edition_tests b) e
+
+-- past them, the test of the edition decides
+pub edition_decides : (b : Book) → phase_refusal false (view b) ≡ None
+    → conversion_refusal (view b) ≡ cond (eqb b.edition 2014 && has_expanded (view b).groups) (Some group_expanded) None
 unfolding conversion_tests view view_common
-sound_conversion b t = rw t
+edition_decides b e = decided_late (view b) _ (edition_tests b) e
 
 -- ---- the book after it
 pub converted_view : (b : Book) → view (with_2023 b) ≡ converted (view b)

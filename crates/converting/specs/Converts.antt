@@ -16,4 +16,4 @@ pub record Converts (b : Book) (r : Result (Unit {0}) Refusal) (after : Book) : 
 
 -- For the proof: the book with its edition changed.
 abbrev pub with_2023 : Book → Book
-with_2023 b = record { edition = 2023; standings = b.standings; products = b.products; day = b.day; is_open = b.is_open }
+with_2023 b = record { edition = 2023; standings = b.standings; products = b.products; opened = b.opened; is_open = b.is_open }

@@ -17,12 +17,7 @@ fn has_expanded(standings: &[Standing]) -> bool
 pub(crate) fn refusal_of(b: &Book) -> Result<(), Refusal>
     ensures { refusal_in result ≡ conversion_refusal (view b.now) }
 {
-    if !b.is_sound() {
-        return Err(Refusal::Unsound);
-    }
-    if b.is_open {
-        return Err(Refusal::WrongPhase);
-    }
+    b.expect(false)?;
     if b.edition == EDITION_2014 && has_expanded(&b.standings) {
         return Err(Refusal::GroupExpanded);
     }

@@ -22,35 +22,38 @@ use Rattle.record.proofs.GroupTable.{is_member, members}
 use Rattle.book.specs.declared.Book.{Book}
 use Rattle.book.specs.Book.{standing_in, level_of, view_product, view_group, view_groups, view_common, view}
 use Rattle.book.specs.Numbers.{all_groups}
-use Rattle.book.proofs.SoundFacts.{day_is}
 use Rattle.book.proofs.Shown.{has_marks}
 use Rattle.book.proofs.Numbers.{value_at, map_twice}
 use Rattle.book.proofs.Views.{shown_group, groups_are, same_groups, products_view, next-view}
 use Rattle.ending.specs.Lead.{moves_of}
 use Rattle.ending.specs.Ends.{quiet, event_in, standing_of_end}
 
--- the moves of some products on the day of the book
+-- the day that the Record ends
+abbrev pub today : Book → Day
+today b = day_of (view_common b)
+
+-- the moves of some products on that day
 abbrev pub moves_today : Book → List ℕ → List (List Move)
-moves_today b ps = moves_of b (trade_date b.day) ps
+moves_today b ps = moves_of b (trade_date (today b)) ps
 
 abbrev pub event_today : Book → ℕ → Event
-event_today b g = event_in b (trade_date b.day) g
+event_today b g = event_in b (trade_date (today b)) g
 
 -- what is left, field by field
 pub record Leaves (b z : Book) (es : List Event) : Type 0 where
   pub events : es ≡ map (event_today b) all_groups
   pub standings : (g : ℕ) → g < group_count
-      → standing_in z g ≡ standing_of_end b (trade_date b.day) es g
+      → standing_in z g ≡ standing_of_end b (trade_date (today b)) es g
   pub products : (p : ℕ) → p < product_count
-      → view_product z p ≡ end_product b.day (get_or es (group_of p) quiet) (view_product b p)
+      → view_product z p ≡ end_product (today b) (get_or es (group_of p) quiet) (view_product b p)
   pub edition : z.edition ≡ b.edition
-  pub day : z.day ≡ b.day
+  pub opened : z.opened ≡ b.opened
   pub is_open : z.is_open ≡ false
 
 -- the moves and the event of a group as it is shown
-moves_are : (b : Book) (g : ℕ) (ps : List ℕ) → group_moves (day_of (view_common b)) (view_group b g ps) ≡ moves_today b ps
+moves_are : (b : Book) (g : ℕ) (ps : List ℕ) → group_moves (today b) (view_group b g ps) ≡ moves_today b ps
 unfolding group_moves moves_of view_group
-moves_are b g ps = ap (λ (d : Day). group_moves d (view_group b g ps)) (day_is b)
+moves_are b g ps = refl
 
 event_is : (b : Book) (g : ℕ) (ps : List ℕ)
     → group_event (view_common b) (view_group b g ps)
@@ -71,15 +74,14 @@ group_after marks d e mss qs =
 
 group_after_lem : (b : Book) (g : ℕ)
     → end_group (view_common b) (view_group b g (products_of g))
-    ≡ group_after (has_marks b) b.day (event_today b g) (moves_today b (products_of g)) (map (view_product b) (products_of g))
+    ≡ group_after (has_marks b) (today b) (event_today b g) (moves_today b (products_of g)) (map (view_product b) (products_of g))
 unfolding end_group view_group view_common
 group_after_lem b g =
     let ps = products_of g in
     let qs = map (view_product b) ps in
     let shown = view_group b g ps in
-    ap (λ (d : Day). group_after (has_marks b) d (group_event (view_common b) shown) (group_moves (day_of (view_common b)) shown) qs) (day_is b)
-    ∙ ap (λ (e : Event). group_after (has_marks b) b.day e (group_moves (day_of (view_common b)) shown) qs) (event_is b g ps)
-    ∙ ap (λ (mss : List (List Move)). group_after (has_marks b) b.day (event_today b g) mss qs) (moves_are b g ps)
+    ap (λ (e : Event). group_after (has_marks b) (today b) e (group_moves (today b) shown) qs) (event_is b g ps)
+    ∙ ap (λ (mss : List (List Move)). group_after (has_marks b) (today b) (event_today b g) mss qs) (moves_are b g ps)
 
 level_of_lem : (e : Event) → level_of (is_expanded (level_after e)) ≡ level_after e
 level_of_lem Quiet = refl
@@ -96,7 +98,7 @@ module _ (b z : Book) (es : List Event) (after : Leaves b z es) where
   unfolding view_group
   group_shown g l =
       let e = event_today b g in
-      let products = products_view b z (end_product b.day e) (is_member g) (λ p t. after.products p (ltb-true _ _ (and_left _ _ t)) ∙ ap (λ (e : Event). end_product b.day e (view_product b p)) (ap (λ (g : ℕ). get_or es g quiet) (eqb-true _ _ (and_right _ _ t)) ∙ event_at g l)) (products_of g) (members g l) in
+      let products = products_view b z (end_product (today b) e) (is_member g) (λ p t. after.products p (ltb-true _ _ (and_left _ _ t)) ∙ ap (λ (e : Event). end_product (today b) e (view_product b p)) (ap (λ (g : ℕ). get_or es g quiet) (eqb-true _ _ (and_right _ _ t)) ∙ event_at g l)) (products_of g) (members g l) in
       sym (group_after_lem b g ∙ sym (rw (after.standings g l, event_at g l, level_of_lem e, products)))
 
   pub end_answer : ended es ≡ answer (view b) end
@@ -105,4 +107,4 @@ module _ (b z : Book) (es : List Event) (after : Leaves b z es) where
 
   pub end_view : view z ≡ next (view b) end
   unfolding view_common next_common next_group
-  end_view = next-view b z end (rw (after.edition, after.day, after.is_open)) group_shown
+  end_view = next-view b z end (rw (after.edition, after.opened, after.is_open)) group_shown

@@ -1,11 +1,10 @@
 -- What an end promises, whatever the book; and what it does to a group's standing, a product's limits and its window.
-use Rattle.std.specs.Prelude.{ℕ, ◌+◌, ◌*◌, ◌≤◌, ◌≡◌, Bool, ◌&&◌, cond, List, get_or, Result}
+use Rattle.std.specs.Prelude.{ℕ, ◌≤◌, Bool, ◌&&◌, cond, List, get_or, Result}
 use Rattle.std.specs.List.{list_any}
 use Rattle.grain.specs.Amounts.{window_length, expanded_of}
 use Rattle.grain.specs.declared.amounts.Limit.{Limit}
 use Rattle.grain.specs.declared.refusals.Refusal.{Refusal}
 use Rattle.grain.specs.declared.spot.TradeDate.{TradeDate}
-use Rattle.record.specs.declared.Day.{Day}
 use Rattle.record.specs.declared.Event.{Event}
 use Rattle.record.specs.declared.Event.TheVariants.{Quiet}
 use Rattle.record.specs.State.{max_contracts}
@@ -53,10 +52,3 @@ limit_after raised p limit =
 pub record Fits (items : Held) : Type 0 where
   pub size : items.window.size ≤ window_length
   pub today : items.today.len ≤ max_contracts
-
--- what the collected months are counted from: the date's contract month, whose year is one of the calendar's
-pub record Falls (d : Day) (month : ℕ) : Type 0 where
-  pub falls : month + 1 ≡ d.year * 12 + d.month
-  pub first : 2000 ≤ d.year
-  pub last : d.year ≤ 2098
-  pub last_month : d.month ≤ 12

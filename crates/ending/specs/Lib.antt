@@ -1,3 +1,4 @@
 pub mod Lead
+pub mod Moves
 pub mod Search
 pub mod Ends

@@ -4,19 +4,11 @@ ghost use Rattle.grain.specs.Amounts.{window_length};
 ghost use Rattle.record.specs.Window.{up_to_middle_of, new_crop_month, collected_month, window_by};
 ghost use Rattle.sheets.specs.Sheets.{entries_of};
 ghost use Rattle.windows.specs.Windows.{shown};
-ghost use Rattle.ending.specs.Ends.{Falls};
 
+use book::OpenDay;
 use record::Day;
 use sheets::Sheet;
 use windows::Window;
-
-// The day that ends, with its contract month.
-#[derive(Clone, Copy, Debug, PartialEq, Eq)]
-pub(crate) struct EndedDay {
-    pub(crate) day: Day,
-    pub(crate) month: u32,
-    pub(crate) ghost dated: { Falls day month },
-}
 
 // The date is before the month, or in its first 15 days.
 fn is_up_to_middle_of(month: u32, d: Day) -> bool
@@ -41,28 +33,26 @@ fn new_crop_month(product: u32) -> u32
     }
 }
 
-impl EndedDay {
-    // The month whose contract is collected, if windows do not rest.
-    #[tactic(auto, using(crate::proofs::Months::new_crop_small), unfolding(record::specs::Window::collected_month, grain::specs::Dates::contract_month))]
-    pub(crate) fn collected_month(&self, product: u32) -> Option<u32>
-        ensures { result ≡ collected_month self.now.day product }
-    {
-        let d = self.day;
-        let january = self.month + 1 - d.month;
-        if 11 <= d.month {
-            return Some(january + 18);
-        }
-        if is_up_to_middle_of(4, d) {
-            return Some(january + 6);
-        }
-        if d.month < 5 {
-            return None;
-        }
-        if !is_up_to_middle_of(10, d) {
-            return None;
-        }
-        Some(january + new_crop_month(product) - 1)
+// The month whose contract is collected on a day, if windows do not rest.
+#[tactic(auto, using(crate::proofs::Months::new_crop_small, crate::proofs::Months::dated), unfolding(record::specs::Window::collected_month, grain::specs::Dates::contract_month))]
+pub(crate) fn collected_month(on: &OpenDay, product: u32) -> Option<u32>
+    ensures { result ≡ collected_month on.now.day product }
+{
+    let d = on.day;
+    let january = on.date.month + 1 - d.month;
+    if 11 <= d.month {
+        return Some(january + 18);
     }
+    if is_up_to_middle_of(4, d) {
+        return Some(january + 6);
+    }
+    if d.month < 5 {
+        return None;
+    }
+    if !is_up_to_middle_of(10, d) {
+        return None;
+    }
+    Some(january + new_crop_month(product) - 1)
 }
 
 // A contract that is not on the sheet empties the window.

@@ -3,27 +3,25 @@ ghost use Rattle.std.specs.Prelude.{◌≡◌, map};
 ghost use Rattle.record.specs.Edition.{conditions_of};
 ghost use Rattle.record.specs.End.{led_by, event_of};
 ghost use Rattle.record.specs.declared.Event.TheVariants.{Held, Reverted};
-ghost use Rattle.record.specs.History.{products_of};
 ghost use Rattle.record.specs.State.{initial, expanded};
 ghost use Rattle.book.specs.Book.{standing_in};
 ghost use Rattle.book.specs.Numbers.{all_groups};
-ghost use Rattle.ending.specs.Lead.{lead_for, moves_of, holding_of, Readable};
+ghost use Rattle.ending.specs.Lead.{lead_for, holding_of};
+ghost use Rattle.ending.specs.Moves.{moves_in};
 ghost use Rattle.ending.specs.Ends.{event_in};
 
 use crate::editions::{holding_of, trigger_of};
 use crate::lead::Condition;
-use crate::moves::GroupMoves;
-use book::Book;
-use grain::TradeDate;
+use crate::moves::{DayMoves, GroupMoves};
 use record::{Event, GROUP_COUNT};
 use std::array;
 
 impl GroupMoves<'_> {
     #[tactic(auto, using(crate::proofs::Asked::trigger_is), unfolding(record::specs::End::event_of))]
     fn initial_event(&self) -> Event
-        ensures { result ≡ event_of (conditions_of self.now.book.now.edition) initial (standing_in self.now.book.now self.now.group).marked (moves_of self.now.book.now self.now.date (products_of self.now.group)) }
+        ensures { result ≡ event_of (conditions_of self.now.day.book.now.edition) initial (standing_in self.now.day.book.now self.now.group).marked (moves_in self.now) }
     {
-        match self.leading(trigger_of(self.book.edition)) {
+        match self.leading(trigger_of(self.day.book.edition)) {
             Some(at) => Event::Triggered(at),
             None => Event::Quiet,
         }
@@ -31,9 +29,9 @@ impl GroupMoves<'_> {
 
     // Of an expanded group that is not raised.
     fn held_or_reverted(&self) -> Event
-        ensures { result ≡ led_by (lead_for (holding_of self.now.book.now.edition) (moves_of self.now.book.now self.now.date (products_of self.now.group))) Held Reverted }
+        ensures { result ≡ led_by (lead_for (holding_of self.now.day.book.now.edition) (moves_in self.now)) Held Reverted }
     {
-        match self.leading(holding_of(self.book.edition)) {
+        match self.leading(holding_of(self.day.book.edition)) {
             Some(at) => Event::Held(at),
             None => Event::Reverted,
         }
@@ -41,7 +39,7 @@ impl GroupMoves<'_> {
 
     #[tactic(auto, using(crate::proofs::Asked::holding_is), unfolding(record::specs::End::event_of))]
     fn expanded_event(&self, marked: bool) -> Event
-        ensures { result ≡ event_of (conditions_of self.now.book.now.edition) expanded marked (moves_of self.now.book.now self.now.date (products_of self.now.group)) }
+        ensures { result ≡ event_of (conditions_of self.now.day.book.now.edition) expanded marked (moves_in self.now) }
     {
         if !marked {
             return self.held_or_reverted();
@@ -53,9 +51,9 @@ impl GroupMoves<'_> {
     }
 
     fn event(&self) -> Event
-        ensures { result ≡ event_in self.now.book.now self.now.date self.now.group }
+        ensures { result ≡ event_in self.now.day.book.now self.now.day.date self.now.group }
     {
-        let standing = self.book.standings[self.group];
+        let standing = self.day.book.standings[self.group];
         if standing.expanded {
             return self.expanded_event(standing.marked);
         }
@@ -63,9 +61,10 @@ impl GroupMoves<'_> {
     }
 }
 
-pub(crate) fn events_of(book: &Book, date: TradeDate) -> [Event; GROUP_COUNT]
-    requires { Readable book.now }
-    ensures { result ≡ map (event_in book.now date) all_groups }
-{
-    array::from_fn(|group| GroupMoves::of(book, date, group).event())
+impl DayMoves<'_> {
+    pub(crate) fn events(&self) -> [Event; GROUP_COUNT]
+        ensures { result ≡ map (event_in self.now.book.now self.now.date) all_groups }
+    {
+        array::from_fn(|group| self.of_group(group).event())
+    }
 }

@@ -6,23 +6,28 @@ ghost use Rattle.ending.specs.Lead.{Readable};
 use book::{Book, Product};
 use grain::TradeDate;
 
-// Of a group of a book, whose open day has the date.
+// Of all groups: the book whose open day has the date.
 #[derive(Clone, Copy, Debug, PartialEq, Eq)]
-pub(crate) struct GroupMoves<'a> {
+pub(crate) struct DayMoves<'a> {
     pub(crate) book: &'a Book,
     pub(crate) date: TradeDate,
-    pub(crate) group: usize,
     pub(crate) ghost readable: { Readable book.now },
+}
+
+// Of one group.
+#[derive(Clone, Copy, Debug, PartialEq, Eq)]
+pub(crate) struct GroupMoves<'a> {
+    pub(crate) day: DayMoves<'a>,
+    pub(crate) group: usize,
     pub(crate) ghost numbered: { group < group_count },
 }
 
-impl<'a> GroupMoves<'a> {
-    pub(crate) fn of(book: &'a Book, date: TradeDate, group: usize) -> GroupMoves<'a>
-        requires readable { Readable book.now }
-        requires numbered { group < group_count }
-        ensures { (result.book.now ≡ book.now) × (result.date ≡ date) × (result.group ≡ group) }
+impl<'a> DayMoves<'a> {
+    pub(crate) fn of_group(&self, group: usize) -> GroupMoves<'a>
+        requires { group < group_count }
+        ensures { (result.day.book.now ≡ self.now.book.now) × (result.day.date ≡ self.now.date) × (result.group ≡ group) }
     {
-        GroupMoves { book, date, group }
+        GroupMoves { day: *self, group }
     }
 }
 

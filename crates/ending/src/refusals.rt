@@ -1,24 +1,21 @@
 // What refuses an end: 1, 2, 12 in this order.
-ghost use Rattle.std.specs.Prelude.{◌≡◌};
+ghost use Rattle.std.specs.Prelude.{◌≡◌, Some};
+ghost use Rattle.std.specs.Result.{ForOk};
 ghost use Rattle.record.specs.Record.{end, refusal};
 ghost use Rattle.book.specs.Book.{view};
 ghost use Rattle.book.specs.Calls.{refusal_in};
 
-use book::Book;
+use book::{Book, OpenDay};
 use grain::Refusal;
 
-#[tactic(auto, using(crate::proofs::Outstanding::end_refusal))]
-pub(crate) fn refusal_of(b: &Book) -> Result<(), Refusal>
-    ensures { refusal_in result ≡ refusal (view b.now) end }
+// The day that ends.
+pub(crate) fn ended_day(b: &Book) -> Result<OpenDay, Refusal>
+    ensures refusal { refusal_in result ≡ refusal (view b.now) end }
+    ensures day { ForOk result (λ on. b.now.opened ≡ Some on.day) }
 {
-    if !b.is_sound() {
-        return Err(Refusal::Unsound);
-    }
-    if !b.is_open {
-        return Err(Refusal::WrongPhase);
-    }
+    let on = b.open_day()?;
     if !b.are_all_in() {
         return Err(Refusal::SheetOutstanding);
     }
-    Ok(())
+    Ok(on)
 }

@@ -3,16 +3,14 @@ ghost use Rattle.std.specs.Prelude.{◌≡◌, ℕ, ◌<◌, get_or, ◌&&◌};
 ghost use Rattle.std.specs.List.{list_any};
 ghost use Rattle.record.specs.Edition.{conditions_of};
 ghost use Rattle.record.specs.Move.{is_at_expanded};
-ghost use Rattle.record.specs.History.{products_of};
 ghost use Rattle.record.specs.State.{group_count};
 ghost use Rattle.book.specs.Book.{no_standing};
-ghost use Rattle.ending.specs.Lead.{moves_of, Readable};
+ghost use Rattle.ending.specs.Moves.{moves_in};
 ghost use Rattle.ending.specs.Ends.{standing_after, standing_of_end};
 
 use crate::lead::Condition;
-use crate::moves::GroupMoves;
-use book::{Book, Standing};
-use grain::TradeDate;
+use crate::moves::{DayMoves, GroupMoves};
+use book::Standing;
 use record::{Event, GROUP_COUNT};
 use std::array;
 
@@ -36,27 +34,24 @@ fn standing_after(event: Event, reached: bool) -> Standing
 impl GroupMoves<'_> {
     // One of the group moved by exactly E.
     fn is_at_expanded(&self) -> bool
-        ensures { result ≡ list_any (list_any is_at_expanded) (moves_of self.now.book.now self.now.date (products_of self.now.group)) }
+        ensures { result ≡ list_any (list_any is_at_expanded) (moves_in self.now) }
     {
         self.leading(Condition::AtExpanded).is_some()
     }
 
     // A move of exactly E is looked for only in a held group, of an edition that has marks: nothing else can set one.
     fn standing(&self, event: Event) -> Standing
-        ensures { result ≡ standing_after event ((conditions_of self.now.book.now.edition).has_marks && list_any (list_any is_at_expanded) (moves_of self.now.book.now self.now.date (products_of self.now.group))) }
+        ensures { result ≡ standing_after event ((conditions_of self.now.day.book.now.edition).has_marks && list_any (list_any is_at_expanded) (moves_in self.now)) }
     {
-        let can_mark = book::has_marks(self.book.edition) && matches!(event, Event::Held(_));
+        let can_mark = book::has_marks(self.day.book.edition) && matches!(event, Event::Held(_));
         standing_after(event, can_mark && self.is_at_expanded())
     }
 }
 
-pub(crate) fn standings_of(
-    book: &Book,
-    date: TradeDate,
-    events: &[Event; GROUP_COUNT],
-) -> [Standing; GROUP_COUNT]
-    requires { Readable book.now }
-    ensures { (g : ℕ) → g < group_count → get_or result g no_standing ≡ standing_of_end book.now date events.now g }
-{
-    array::from_fn(|group| GroupMoves::of(book, date, group).standing(events[group]))
+impl DayMoves<'_> {
+    pub(crate) fn standings(&self, events: &[Event; GROUP_COUNT]) -> [Standing; GROUP_COUNT]
+        ensures { (g : ℕ) → g < group_count → get_or result g no_standing ≡ standing_of_end self.now.book.now self.now.date events.now g }
+    {
+        array::from_fn(|group| self.of_group(group).standing(events[group]))
+    }
 }

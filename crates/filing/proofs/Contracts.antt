@@ -11,7 +11,7 @@ use Rattle.record.specs.declared.Day.{Day}
 use Rattle.record.specs.declared.Contract.{Contract}
 use Rattle.std.specs.Prelude.{Option}
 use Rattle.record.specs.Refusals.{when, first, bad_month, contract_absent, beyond_limit}
-use Rattle.record.specs.State.{Product, month_of, trade_date, is_spot_on, group_of, group_at, product_in, todays_limit, sheet_or}
+use Rattle.record.specs.State.{Product, day_of, month_of, trade_date, is_spot_on, group_of, group_at, product_in, todays_limit, sheet_or}
 use Rattle.record.specs.Sheet.{has_bad_month, has_bad_settlement, lacks_contract, is_beyond}
 use Rattle.record.specs.Sound.{is_sound}
 use Rattle.sheets.specs.Sheets.{entries_of, months_of, settlements_of}
@@ -19,7 +19,7 @@ use Rattle.sheets.proofs.Rest.{counted}
 use Rattle.book.specs.declared.Book.{Book}
 use Rattle.book.specs.Book.{last_in, view, view_held}
 use Rattle.book.proofs.SheetsIn.{sheet_contracts}
-use Rattle.book.proofs.SoundFacts.{day_in, last_fits}
+use Rattle.book.proofs.SoundFacts.{last_fits}
 use Rattle.book.proofs.Views.{product_is}
 use Rattle.filing.specs.Files.{contract_tests}
 
@@ -44,11 +44,12 @@ module _ (b : Book) (p : ℕ) (s : List Contract) where
   abbrev limit : ℕ
   limit = todays_limit (group_at (view b) (group_of p)) p
 
+  abbrev today : Day
+  today = day_of (view b).common
+
   pub late_is : p < 8 → is_sound (view b) ≡ true
       → first (contract_tests (view b) p s)
-      ≡ by (has_bad_month (trade_date b.day).month p (months_of s)) (not (every (is_settlement p) (settlements_of s)))
-      (lacks_contract (is_spot (trade_date b.day)) (entries_of (last_in b p)) s) (is_beyond (is_spot (trade_date b.day)) limit (entries_of (last_in b p)) s)
+      ≡ by (has_bad_month (trade_date today).month p (months_of s)) (not (every (is_settlement p) (settlements_of s)))
+      (lacks_contract (is_spot (trade_date today)) (entries_of (last_in b p)) s) (is_beyond (is_spot (trade_date today)) limit (entries_of (last_in b p)) s)
   unfolding has_bad_settlement
-  late_is l sound =
-      ap (λ (d : Day). by_day b p s d (sheet_or (product_in (group_at (view b) (group_of p)) p).last)) (day_in b)
-      ∙ ap (by_day b p s b.day) (last_is b p l (last_fits b sound p l))
+  late_is l sound = ap (by_day b p s today) (last_is b p l (last_fits b sound p l))

@@ -16,7 +16,6 @@ use Rattle.record.specs.declared.Contract.{Contract}
 use Rattle.record.specs.Refusals.{Test, when, first, bad_month, contract_absent, beyond_limit}
 use Rattle.record.specs.State.{Record, day_of, month_of, is_spot_on, group_of, group_at, product_in, todays_limit, sheet_or}
 use Rattle.record.specs.Sheet.{contracts, is_misshapen, has_bad_month, has_bad_settlement, lacks_contract, is_beyond, sheet_tests, file_product, file_group}
-use Rattle.record.specs.Sound.{is_sound}
 use Rattle.record.specs.Record.{sheet, tests, refusal, next, next_common, next_group}
 use Rattle.record.proofs.Cleared.{cleared}
 use Rattle.sheets.specs.declared.sheet.Sheet.{Sheet}
@@ -26,7 +25,9 @@ use Rattle.sheets.proofs.Fills.{contracts-length}
 use Rattle.book.specs.declared.Book.{Book}
 use Rattle.book.specs.declared.product.Product.{Product as Held}
 use Rattle.book.specs.Book.{no_items, limit_in, window_in, last_in, view_product, view_group, view_common, view, view_held}
-use Rattle.book.proofs.Views.{open_is, group_view, next-view}
+use Rattle.book.specs.Phase.{phase_refusal}
+use Rattle.book.proofs.Phases.{refused_early, decided_late}
+use Rattle.book.proofs.Views.{group_view, next-view}
 use Rattle.filing.specs.Files.{early_tests, contract_tests}
 
 -- ---- the two arrays
@@ -89,45 +90,46 @@ module _ (r : Record) (p : ℕ) (ms ss : List ℕ) where
       ∷ when (is_beyond (is_spot_on d) (todays_limit g p) (sheet_or (product_in g p).last) (contracts ms ss)) beyond_limit
       ∷ []
 
-  refusal_is : refusal r (sheet p ms ss) ≡ option_or (first (early_tests r p ms ss)) (first later)
-  unfolding refusal tests sheet_tests later
-  refusal_is = first_joined (early_tests r p ms ss) later
+  own_tests : List Test
+  own_tests = early_tests r p ms ss ++ later
 
-  pub refused_early : (n : ℕ) → first (early_tests r p ms ss) ≡ Some n → refusal r (sheet p ms ss) ≡ Some n
-  refused_early n e = refusal_is ∙ ap (λ (o : Option ℕ). option_or o (first later)) e
+  -- refused by the first two tests
+  pub phase_refuses : (n : ℕ) → phase_refusal true r ≡ Some n → refusal r (sheet p ms ss) ≡ Some n
+  unfolding refusal tests sheet_tests own_tests later
+  phase_refuses n e = refused_early r (not r.common.is_open) n own_tests e
 
-  refused_late : first (early_tests r p ms ss) ≡ None → length ss ≡ length ms
-      → refusal r (sheet p ms ss) ≡ first (contract_tests r p (contracts ms ss))
-  unfolding later
-  refused_late e same =
-      refusal_is
-      ∙ ap (λ (o : Option ℕ). option_or o (first later)) e
-      ∙ sym (rw (months_are ms ss same, settlements_are ms ss same))
+  module _ (past : None ≡ phase_refusal true r) where
+    refusal_is : refusal r (sheet p ms ss) ≡ option_or (first (early_tests r p ms ss)) (first later)
+    unfolding refusal tests sheet_tests own_tests later
+    refusal_is = decided_late r (not r.common.is_open) own_tests (sym past) ∙ first_joined (early_tests r p ms ss) later
+
+    pub early_refuses : (n : ℕ) → first (early_tests r p ms ss) ≡ Some n → refusal r (sheet p ms ss) ≡ Some n
+    early_refuses n e = refusal_is ∙ ap (λ (o : Option ℕ). option_or o (first later)) e
+
+    contracts_refuse : first (early_tests r p ms ss) ≡ None → length ss ≡ length ms
+        → refusal r (sheet p ms ss) ≡ first (contract_tests r p (contracts ms ss))
+    unfolding later
+    contracts_refuse e same =
+        refusal_is
+        ∙ ap (λ (o : Option ℕ). option_or o (first later)) e
+        ∙ sym (rw (months_are ms ss same, settlements_are ms ss same))
 
 -- what the early tests say where none applies
 pub record Early (b : Book) (p : ℕ) (ms ss : List ℕ) : Type 0 where
   pub passed : first (early_tests (view b) p ms ss) ≡ None
-  pub sound : is_sound (view b) ≡ true
-  pub is_open : b.is_open ≡ true
   pub product : p < 8
   pub arrays : Shape ms ss
 
 pub early : (b : Book) (p : ℕ) (ms ss : List ℕ) → first (early_tests (view b) p ms ss) ≡ None → Early b p ms ss
 early b p ms ss e =
     let c = cleared (early_tests (view b) p ms ss) e in
-    record {
-      passed = e;
-      sound = not-false _ c.0;
-      is_open = sym (open_is b) ∙ not-false _ c.1.0;
-      product = ltb-true p 8 (not-false _ c.1.1.0);
-      arrays = shape ms ss c.1.1.1.1.0;
-    }
+    record { passed = e; product = ltb-true p 8 (not-false _ c.0); arrays = shape ms ss c.1.1.0 }
 
 -- past them, the tests over the contracts decide
-pub refusal_late : (b : Book) (p : ℕ) (ms ss : List ℕ) (s : Sheet) → Early b p ms ss → Made ms ss s
+pub refusal_late : (b : Book) (p : ℕ) (ms ss : List ℕ) (s : Sheet) → None ≡ phase_refusal true (view b) → Early b p ms ss → Made ms ss s
     → refusal (view b) (sheet p ms ss) ≡ first (contract_tests (view b) p (entries_of s))
-refusal_late b p ms ss s e is =
-    refused_late (view b) p ms ss e.passed e.arrays.same
+refusal_late b p ms ss s past e is =
+    contracts_refuse (view b) p ms ss past e.passed e.arrays.same
     ∙ sym (ap (λ (cs : List Contract). first (contract_tests (view b) p cs)) is.entries)
 
 -- ---- the book with the sheet in
@@ -141,7 +143,7 @@ filed_book b p s =
       edition = b.edition;
       standings = b.standings;
       products = set b.products p (filed_items b p s);
-      day = b.day;
+      opened = b.opened;
       is_open = b.is_open;
     }
 

@@ -4,10 +4,9 @@ use Rattle.grain.specs.Products.{is_product}
 use Rattle.grain.specs.Refusals.{no_such_product, misshapen, bad_price}
 use Rattle.grain.specs.declared.refusals.Refusal.{Refusal}
 use Rattle.record.specs.declared.Contract.{Contract}
-use Rattle.record.specs.Refusals.{Test, when, unsound, wrong_phase, already_in, bad_month, contract_absent, beyond_limit}
+use Rattle.record.specs.Refusals.{Test, when, already_in, bad_month, contract_absent, beyond_limit}
 use Rattle.record.specs.State.{Record, day_of, month_of, is_spot_on, group_of, group_at, product_in, todays_limit, sheet_or}
 use Rattle.record.specs.Sheet.{is_misshapen, has_bad_month, has_bad_settlement, lacks_contract, is_beyond}
-use Rattle.record.specs.Sound.{is_sound}
 use Rattle.record.specs.Record.{sheet, Answer, filed}
 use Rattle.sheets.specs.Sheets.{months_of, settlements_of}
 use Rattle.book.specs.declared.Book.{Book}
@@ -20,12 +19,10 @@ abbrev pub Files : Book → ℕ → List ℕ → List ℕ → Result (Unit {0}) 
 Files b p ms ss r after = Responds b (sheet p ms ss) (filed_as r) after
 
 -- For the functions inside: the Record's tests in two parts, which proofs/Filings.antt holds against them.
--- the refusals before the contracts are looked at: 1, 2, 5, 11, 6
+-- the refusals after 1 and 2, before the contracts are looked at: 5, 11, 6
 abbrev pub early_tests : Record → ℕ → List ℕ → List ℕ → List Test
 early_tests r p ms ss =
-    when (not (is_sound r)) unsound
-    ∷ when (not r.common.is_open) wrong_phase
-    ∷ when (not (is_product p)) no_such_product
+    when (not (is_product p)) no_such_product
     ∷ when (is_some (product_in (group_at r (group_of p)) p).today) already_in
     ∷ when (is_misshapen ms ss) misshapen
     ∷ []

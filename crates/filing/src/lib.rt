@@ -14,10 +14,9 @@ use refusals::{contract_refusal, early_refusal};
 pub fn sheet(b: &mut Book, product: u32, months: &[u32], settlements: &[u32]) -> Result<(), Refusal>
     ensures { Files b.old product months.now settlements.now result b.new }
 {
+    let date = b.open_day()?.date;
     early_refusal(b, product, months, settlements)?;
     let p = product as usize;
-    // A sound book has a date on every open day.
-    let date = book::trade_date(b.day).ok_or(Refusal::Unsound)?;
     let sheet = Sheet::of(months, settlements);
     contract_refusal(b, date, p, &sheet)?;
     b.products[p].today = sheet;

@@ -1,8 +1,8 @@
-// What refuses a sheet: 1, 2, 5, 11, 6, 7, 8, 9, 10 in this order, each test over all contracts before the next.
+// What refuses a sheet after 1 and 2: 5, 11, 6, 7, 8, 9, 10 in this order, each test over all contracts before the next.
 ghost use Rattle.std.specs.Prelude.{◌≡◌, true, ◌<◌};
 ghost use Rattle.grain.specs.Products.{product_count};
 ghost use Rattle.record.specs.Refusals.{first};
-ghost use Rattle.record.specs.State.{trade_date};
+ghost use Rattle.record.specs.State.{day_of, trade_date};
 ghost use Rattle.record.specs.Sheet.{has_bad_month};
 ghost use Rattle.record.specs.Sound.{is_sound};
 ghost use Rattle.sheets.specs.Sheets.{entries_of, months_of};
@@ -15,7 +15,7 @@ use grain::{Refusal, TradeDate};
 use sheets::Sheet;
 
 // Those before the contracts are looked at.
-#[tactic(auto, using(book::proofs::Views::open_is, crate::proofs::EarlyTests::early_is))]
+#[tactic(auto, using(crate::proofs::EarlyTests::early_is))]
 pub(crate) fn early_refusal(
     b: &Book,
     product: u32,
@@ -24,12 +24,6 @@ pub(crate) fn early_refusal(
 ) -> Result<(), Refusal>
     ensures { refusal_in result ≡ first (early_tests (view b.now) product months.now settlements.now) }
 {
-    if !b.is_sound() {
-        return Err(Refusal::Unsound);
-    }
-    if !b.is_open {
-        return Err(Refusal::WrongPhase);
-    }
     if !grain::is_product(product) {
         return Err(Refusal::NoSuchProduct);
     }
@@ -62,7 +56,7 @@ pub(crate) fn contract_refusal(
     p: usize,
     s: &Sheet,
 ) -> Result<(), Refusal>
-    requires { (p < product_count) × (is_sound (view b.now) ≡ true) × (date ≡ trade_date b.now.day) }
+    requires { (p < product_count) × (is_sound (view b.now) ≡ true) × (date ≡ trade_date (day_of (view b.now).common)) }
     ensures { refusal_in result ≡ first (contract_tests (view b.now) p (entries_of s.now)) }
 {
     let product = p as u32;

@@ -3,7 +3,8 @@ use Prim.Native.Nat.{ℕ}
 use mathlib.Core.Path.{◌≡◌, refl, sym, ◌∙◌, ap}
 use mathlib.Core.Bool.{Bool, true, false}
 use mathlib.Core.List.{List}
-use Rattle.std.specs.Prelude.{Option, Some, None, Ok, Err}
+use Rattle.std.specs.Prelude.{Option, Some, None, Result, Ok, Err}
+use Rattle.std.specs.Borrow.{Bor, MutBor}
 use Rattle.grain.specs.Refusals.{number_of}
 use Rattle.grain.specs.declared.refusals.Refusal.{Refusal}
 use Rattle.record.specs.State.{Record}
@@ -13,12 +14,13 @@ use Rattle.record.specs.Record.{Call, opening, sheet, end, check, Answer, refuse
 use Rattle.record.proofs.StaysSound.{founded_sound, respond_sound}
 use Rattle.book.specs.declared.Book.{Book}
 use Rattle.book.specs.Book.{view}
-use Rattle.book.specs.Calls.{Responds}
+use Rattle.book.specs.Calls.{Responds, answer_as}
 use Rattle.book.specs.Founding.{Founds}
 use Rattle.book.proofs.SoundnessFirst.{unsound-refusal}
 use Rattle.image.specs.Image.{book_in}
 use Rattle.image.specs.Answers.{renewed_in, events_in}
 use Rattle.image.specs.Put.{Put}
+use Rattle.gateway.specs.Written.{Writes}
 use Rattle.gateway.specs.Calls.{answer_number, renewed_after, events_after, RespondsImage, no_renewed, no_events, FoundsImage}
 
 abbrev is_accepted : Answer → Bool
@@ -46,7 +48,7 @@ refused_stays : (r : Record) (c : Call) (n : ℕ) → refused n ≡ (respond r c
 unfolding respond
 refused_stays r c n e = stays_by (refusal r c) r c n e
 
-pub refused_image : (ws : List ℕ) (c : Call) (n : ℕ) (z : Book) → Responds (book_in ws) c (refused n) z → RespondsImage ws c n ws
+refused_image : (ws : List ℕ) (c : Call) (n : ℕ) (z : Book) → Responds (book_in ws) c (refused n) z → RespondsImage ws c n ws
 refused_image ws c n z r =
     record {
       number = ap answer_number r.answer;
@@ -77,19 +79,30 @@ module _ (ws : List ℕ) (c : Call) (a : Answer) (z : Book) (yes : is_accepted a
   sound_after : is_sound (view z) ≡ true
   sound_after = rw r.state (respond_sound (view (book_in ws)) c sound_before)
 
-  pub accepted_image : (rs es now : List ℕ) → answer_number a ≡ 0 → rs ≡ renewed_after a (renewed_in ws) → es ≡ events_after a (events_in ws)
-      → Put z rs es now → RespondsImage ws c 0 now
-  accepted_image rs es now zero rs-are es-are p =
+  accepted_image : (now : List ℕ) → answer_number a ≡ 0 → Put z (renewed_after a (renewed_in ws)) (events_after a (events_in ws)) now
+      → RespondsImage ws c 0 now
+  accepted_image now zero p =
       record {
         number = sym zero ∙ ap answer_number r.answer;
         state = ap view (p.book sound_after) ∙ r.state;
-        renewed = p.renewed ∙ rs-are ∙ ap (λ a. renewed_after a (renewed_in ws)) r.answer;
-        events = p.events ∙ es-are ∙ ap (λ a. events_after a (events_in ws)) r.answer;
+        renewed = p.renewed ∙ ap (λ a. renewed_after a (renewed_in ws)) r.answer;
+        events = p.events ∙ ap (λ a. events_after a (events_in ws)) r.answer;
         unchanged = λ m e. cc (not_refused, e);
       }
 
+-- what is written of such a call, where putting leaves what the answer a.now says
+module _ {A : Type 0} (gives : A → Answer) (ws : List ℕ) (c : Call) (z : Book) (post : MutBor (List ℕ) → Bor A → MutBor (List ℕ) → Type 0)
+    (yes : (a : A) → is_accepted (gives a) ≡ true) (zero : (a : A) → answer_number (gives a) ≡ 0)
+    (puts : (lent : MutBor (List ℕ)) (a : Bor A) (left : MutBor (List ℕ)) → post lent a left
+    → Put z (renewed_after (gives a.now) (renewed_in lent.now)) (events_after (gives a.now) (events_in lent.now)) left.now) where
+  pub written_image : (result : Result A Refusal) (n : ℕ) (now : List ℕ) → Responds (book_in ws) c (answer_as gives result) z
+      → Writes post result ws n now → RespondsImage ws c n now
+  written_image (Ok a) n now r (n-is, p) =
+      rw n-is (accepted_image ws c (gives a) z (yes a) r now (zero a) (rw (p.lends, p.shows, p.leaves) at (puts p.lent p.shown p.left p.met)))
+  written_image (Err e) n now r (n-is, now-is) = rw (n-is, now-is) (refused_image ws c (number_of e) z r)
+
 -- a founding
-pub accepted_founding : (ws : List ℕ) (s : Start) (b : Book) → Founds s (Ok b) → (now : List ℕ) → Put b no_renewed no_events now
+accepted_founding : (ws : List ℕ) (s : Start) (b : Book) → Founds s (Ok b) → (now : List ℕ) → Put b no_renewed no_events now
     → FoundsImage ws s 0 now
 accepted_founding ws s b founds now p =
     record {
@@ -99,3 +112,16 @@ accepted_founding ws s b founds now p =
       events = λ e. p.events;
       unchanged = λ n e. cc (founds.0, e);
     }
+
+module _ (ws : List ℕ) (s : Start) (post : MutBor (List ℕ) → Bor Book → MutBor (List ℕ) → Type 0)
+    (puts : (lent : MutBor (List ℕ)) (b : Bor Book) (left : MutBor (List ℕ)) → post lent b left → Put b.now no_renewed no_events left.now) where
+  pub written_founding : (result : Result Book Refusal) (n : ℕ) (now : List ℕ) → Founds s result → Writes post result ws n now → FoundsImage ws s n now
+  written_founding (Ok b) n now f (n-is, p) = rw n-is (accepted_founding ws s b f now (rw (p.shows, p.leaves) at (puts p.lent p.shown p.left p.met)))
+  written_founding (Err r) n now f (n-is, now-is) =
+      record {
+        number = rw f n-is;
+        state = λ e. cc (f, e);
+        renewed = λ e. cc (f, e);
+        events = λ e. cc (f, e);
+        unchanged = λ m e. now-is;
+      }

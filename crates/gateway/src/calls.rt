@@ -3,8 +3,30 @@ ghost use Rattle.std.specs.Prelude.{[], ◌∷◌, ◌≡◌};
 ghost use Rattle.record.specs.Record.{opening, sheet, end};
 ghost use Rattle.opening.specs.Opens.{day_on};
 ghost use Rattle.gateway.specs.Calls.{RespondsImage, image_check, FoundsImage};
+ghost use Rattle.gateway.specs.Written.{Writes};
 
+use grain::Refusal;
 use image::{WORDS, book_in, put_ended, put_filed, put_founded, put_opened};
+
+// Puts what an accepted call answers in the words, and gives the call's number: 0, or that of its refusal, which leaves the words.
+// The words and the answer are lent to `put`: a proof does not know what a closure that captured the words leaves where it is not called, and
+// nothing of a closure that takes an array by value.
+fn write<A: Drop, F: FnOnce(&mut [u32; WORDS], &A)>(
+    words: &mut [u32; WORDS],
+    answer: Result<A, Refusal>,
+    put: F,
+) -> u32
+    requires { F.IsAlwaysCallable put }
+    ensures { Writes (λ lent a left. F.post put lent a tt left) answer words.old result words.new }
+{
+    match answer {
+        Ok(answer) => {
+            put(words, &answer);
+            0
+        }
+        Err(refusal) => refusal.into(),
+    }
+}
 
 #[unsafe(no_mangle)]
 pub extern "C" fn botskhela_found(
@@ -31,13 +53,8 @@ pub extern "C" fn botskhela_found(
         oats,
         rough_rice,
     ];
-    match book::found(edition, limits) {
-        Ok(fresh) => {
-            put_founded(words, &fresh);
-            0
-        }
-        Err(refusal) => refusal.into(),
-    }
+    let fresh = book::found(edition, limits);
+    write(words, fresh, |w, fresh| put_founded(w, fresh))
 }
 
 #[unsafe(no_mangle)]
@@ -51,13 +68,8 @@ pub extern "C" fn botskhela_open(
     ensures { RespondsImage words.old (opening (day_on year month day left)) result words.new }
 {
     let mut b = book_in(words);
-    match opening::opening(&mut b, year, month, day, left) {
-        Ok(renewed) => {
-            put_opened(words, &b, renewed);
-            0
-        }
-        Err(refusal) => refusal.into(),
-    }
+    let renewed = opening::opening(&mut b, year, month, day, left);
+    write(words, renewed, |w, renewed| put_opened(w, &b, *renewed))
 }
 
 #[unsafe(no_mangle)]
@@ -70,13 +82,8 @@ pub extern "C" fn botskhela_sheet(
     ensures { RespondsImage words.old (sheet product months.now settlements.now) result words.new }
 {
     let mut b = book_in(words);
-    match filing::sheet(&mut b, product, months, settlements) {
-        Ok(()) => {
-            put_filed(words, &b);
-            0
-        }
-        Err(refusal) => refusal.into(),
-    }
+    let filed = filing::sheet(&mut b, product, months, settlements);
+    write(words, filed, |w, _| put_filed(w, &b))
 }
 
 #[unsafe(no_mangle)]
@@ -84,13 +91,8 @@ pub extern "C" fn botskhela_end(words: &mut [u32; WORDS]) -> u32
     ensures { RespondsImage words.old end result words.new }
 {
     let mut b = book_in(words);
-    match ending::end(&mut b) {
-        Ok(events) => {
-            put_ended(words, &b, events);
-            0
-        }
-        Err(refusal) => refusal.into(),
-    }
+    let events = ending::end(&mut b);
+    write(words, events, |w, events| put_ended(w, &b, *events))
 }
 
 #[unsafe(no_mangle)]

@@ -4,11 +4,11 @@ ghost use Rattle.gateway.specs.Tallied.{TalliesBare, TalliesImage};
 
 use grain::checked_number;
 use image::{WORDS, book_in};
-use tally::Tally;
+use tally::{TALLY_WORDS, Tally};
 
 #[unsafe(no_mangle)]
 pub extern "C" fn botskhela_tallied_check(
-    tally: &mut [u32; 6],
+    tally: &mut [u32; TALLY_WORDS],
     product: u32,
     size: u32,
     settlement: u32,
@@ -26,7 +26,7 @@ pub extern "C" fn botskhela_tallied_check(
 
 #[unsafe(no_mangle)]
 pub extern "C" fn botskhela_tallied_book_check(
-    tally: &mut [u32; 6],
+    tally: &mut [u32; TALLY_WORDS],
     words: &[u32; WORDS],
     product: u32,
     size: u32,

@@ -23,3 +23,4 @@ pub mod Sums
 pub mod Tests
 pub mod ValidDates
 pub mod Judged
+pub mod Defaults

@@ -15,7 +15,7 @@ use Rattle.record.specs.History.{kept, SameFor}
 use Rattle.record.specs.Theorems.{after, is_refusal, has_raised, Together, BetweenLimits, Resent}
 use Rattle.sheets.specs.Sheets.{sheet_in}
 use Rattle.book.specs.declared.Book.{Book}
-use Rattle.book.specs.Book.{limit_in, window_of, standing_in, today_in, last_in, level_of, opened_of, view}
+use Rattle.book.specs.Book.{limit_in, window_of, standing_in, today_in, last_in, level_of, view}
 use Rattle.book.specs.Founding.{Founds}
 use Rattle.checking.specs.Checks.{Checks}
 use Rattle.history.specs.Trace.{Trace}
@@ -40,7 +40,7 @@ pub record SameProduct (z : Book) (r : Record) (p : ℕ) : Type 0 where
 pub record SameContents (z : Book) (r : Record) : Type 0 where
   pub edition : z.edition ≡ r.common.edition
   pub is_open : z.is_open ≡ r.common.is_open
-  pub opened : opened_of z.day ≡ r.common.opened
+  pub opened : z.opened ≡ r.common.opened
   pub products : (p : ℕ) → p < product_count → SameProduct z r p
 
 pub record WholeHistory : Type 0 where

@@ -1,27 +1,31 @@
 -- The book in the words of a book is that book, if its counts are within their places, as a sound book's are.
-use Prim.Native.Nat.{ℕ, ◌<◌, ◌≤◌, ◌*◌}
+use Prim.Native.Nat.{ℕ, ◌+◌, ◌<◌, ◌≤◌, ◌*◌}
 use mathlib.Core.Path.{◌≡◌, refl, sym, ◌∙◌, ap}
 use mathlib.Core.Bool.{Bool, true, false}
-use mathlib.Core.List.{List, [], ◌∷◌, ◌++◌, map, append_assoc}
+use mathlib.Core.List.{List, [], ◌∷◌, ◌++◌, append_assoc}
 use native.Mathlib.Omega.{arith}
 use lib.Dec.{eqb}
 use lib.ListN.{length, get_or, drop}
-use lib.Seq.{take_all, drop_at}
-use borrow.Author.Tests.{le-leb}
+use lib.Seq.{take_all, drop_at, drop-drop}
+use Rattle.std.specs.Prelude.{Option, Some, None}
+use borrow.Author.Tests.{le-leb, ne_eqb}
 use Rattle.grain.specs.Lists.{◌and◌, every}
+use Rattle.record.specs.declared.Day.{Day}
+use Rattle.record.specs.Opening.{is_true_day}
 use Rattle.record.specs.Sound.{is_sound}
 use Rattle.record.specs.State.{group_count}
+use Rattle.record.proofs.TrueDays.{valid}
 use Rattle.sheets.specs.declared.sheet.Sheet.{Sheet}
 use Rattle.windows.specs.declared.Window.{Window}
 use Rattle.windows.specs.Windows.{no_window}
 use Rattle.book.specs.declared.Standing.{Standing}
 use Rattle.book.specs.declared.Book.{Book}
 use Rattle.book.specs.Book.{no_limit, no_sheet, no_items, view}
-use Rattle.book.proofs.SoundFacts.{today_fits, last_fits, size_fits}
-use Rattle.image.specs.Places.{limit_words, standing_words, windows_words, contract_words, sheet_words}
+use Rattle.book.proofs.SoundFacts.{today_fits, last_fits, size_fits, true_day}
+use Rattle.image.specs.Places.{day_words, limit_words, standing_words, windows_words, contract_words, sheet_words}
 use Rattle.image.specs.Places as at
 use Rattle.image.specs.Words.{part, flat, chunks}
-use Rattle.image.specs.Image.{flag_word, count_word, words_of_head, words_of_limit, words_of_standing, words_of_windows, words_of_contract, words_of_sheet, words_of_book, is_flag, limits_of, windows_of, todays_of, lasts_of, limit_of, standing_of, contract_of, sheet_of, windows_in, items_by, as_book, is_image, book_in}
+use Rattle.image.specs.Image.{flag_word, count_word, words_of_head, words_of_day, words_of_limit, words_of_standing, words_of_windows, words_of_contract, words_of_sheet, words_of_book, is_flag, limits_of, windows_of, todays_of, lasts_of, is_no_day, day_of, limit_of, standing_of, contract_of, sheet_of, window_in, windows_in, items_by, as_book, is_image, book_in}
 use Rattle.image.specs.Put.{SheetsPut, WindowsPut, Shaped}
 use Rattle.std.proofs.Math.ListN.{get_or-map, get_or-append}
 use lib.ListN.{length-map}
@@ -32,8 +36,8 @@ use Rattle.book.specs.Numbers.{all_products}
 use Rattle.book.proofs.Numbers.{map_same, values_are}
 use Rattle.std.proofs.lemmas.List.Elements.{All-from_get_or}
 use Rattle.image.proofs.Begun.{part_is, after-part}
-use Rattle.image.proofs.Chunks.{Sized, flat_sized, chunks_back, flat-map}
-use Rattle.image.proofs.Lengths.{sheets_sized, sheets_long, limits_long, standings_long, sizes_of, settlements_of, sizes_long, settlements_long, windows_long}
+use Rattle.image.proofs.Chunks.{flat_at, flat_sized, chunks_back}
+use Rattle.image.proofs.Lengths.{day_long, sheets_sized, sheets_long, limits_long, standings_long, sizes_of, settlements_of, sizes_long, settlements_sized, windows_long}
 
 flag_is : (b : Bool) → is_flag (flag_word b) ≡ true
 flag_is true = refl
@@ -50,6 +54,17 @@ flags_are (s ∷ l) = rw (flag_is s.expanded, flag_is s.marked) (flags_are l)
 
 standing_back : (s : Standing) → standing_of (words_of_standing s) ≡ s
 standing_back s = rw (flag_back s.expanded, flag_back s.marked)
+
+-- four zeros are no date
+is_a_day : (d : Day) → is_true_day d ≡ true → is_no_day d ≡ false
+is_a_day d t =
+    let first = (valid d t).first in
+    let other : d.year ≡ 0 → ⊥ = omega arith in
+    rw (ne_eqb d.year 0 other)
+
+day_back : (o : Option Day) → ((d : Day) → o ≡ Some d → is_true_day d ≡ true) → day_of (words_of_day o) ≡ o
+day_back None t = refl
+day_back (Some d) t = rw (is_a_day d (t d refl))
 
 -- one sheet, and eight
 sheet_back : (s : Sheet) → length s.contracts ≡ 16 → s.len ≤ 16 → sheet_of (words_of_sheet s) ≡ s
@@ -72,24 +87,12 @@ all_are_products = refl
 
 -- the windows, place by place
 module _ (ws : List Window) (s : WindowsPut ws) (fit : (p : ℕ) → p < 8 → (get_or ws p no_window).size ≤ 45) where
-  abbrev settlements : List (List ℕ)
-  settlements = map settlements_of ws
-
-  many : length settlements ≡ 8
-  many = length-map ws settlements_of ∙ s.all
-
-  sized : Sized (λ (xs : List ℕ). xs) 45 settlements
-  sized =
-      All-from_get_or (λ (xs : List ℕ). length xs ≡ 45) settlements []
-      (λ p h. let l = rw many at h in rw (get_or-map settlements_of ws p no_window) (s.each p l))
-
-  places : chunks 45 (λ (xs : List ℕ). xs) 8 (part 8 (8 * 45) (words_of_windows ws)) ≡ settlements
+  settlements_at : (p : ℕ) → p < 8 → part (8 + 45 * p) 45 (words_of_windows ws) ≡ (get_or ws p no_window).settlements
   unfolding words_of_windows
-  places =
-      let words = flat settlements_of ws in
-      let fits : length words ≤ 8 * 45 = omega (arith, settlements_long ws s) in
-      rw (drop_at (sizes_of ws) words 8 (sizes_long ws s), take_all (8 * 45) words fits, ← (flat-map (λ (xs : List ℕ). xs) settlements_of ws))
-      (chunks_back (λ (xs : List ℕ). xs) 45 (λ xs. xs) 8 settlements many sized (λ q d h. refl))
+  settlements_at p l =
+      let inside : p < length ws = rw s.all l in
+      rw (← (drop-drop (45 * p) 8 (words_of_windows ws)), drop_at (sizes_of ws) (flat settlements_of ws) 8 (sizes_long ws s))
+      (flat_at settlements_of 45 ws p no_window (settlements_sized ws s) inside)
 
   size_at : (p : ℕ) → p < 8 → get_or (words_of_windows ws) p 0 ≡ (get_or ws p no_window).size
   unfolding words_of_windows
@@ -99,16 +102,14 @@ module _ (ws : List Window) (s : WindowsPut ws) (fit : (p : ℕ) → p < 8 → (
       ∙ get_or-map (λ (w : Window). count_word 45 w.size) ws p no_window
       ∙ rw (le-leb (get_or ws p no_window).size 45 (fit p l))
 
-  window_at : (p : ℕ) → is_product p ≡ true
-      → ◌≡◌ {A = Window} (record { settlements = get_or settlements p []; size = get_or (words_of_windows ws) p 0 }) (get_or ws p no_window)
-  window_at p t = rw (get_or-map settlements_of ws p no_window, size_at p (ltb-true p 8 t))
+  window_at : (p : ℕ) → is_product p ≡ true → window_in (words_of_windows ws) p ≡ get_or ws p no_window
+  window_at p t = let l = ltb-true p 8 t in rw (settlements_at p l, size_at p l)
 
   windows_back_lem : windows_in (words_of_windows ws) ≡ ws
   unfolding windows_in
   windows_back_lem =
-      rw places
-      (map_same is_product _ (λ p. get_or ws p no_window) window_at all_products all_are_products
-      ∙ sym (values_are no_window (λ p. get_or ws p no_window) 8 ws s.all (λ p l. refl)))
+      map_same is_product _ (λ p. get_or ws p no_window) window_at all_products all_are_products
+      ∙ sym (values_are no_window (λ p. get_or ws p no_window) 8 ws s.all (λ p l. refl))
 
 -- the parts of a product put together
 item_at : (items : List Held) (p : ℕ)
@@ -145,12 +146,18 @@ module _ (b : Book) (s : Shaped b) (rest : List ℕ) where
   abbrev from_limits : List ℕ
   from_limits = flat words_of_limit (limits_of b.products) ++ from_standings
 
-  in_parts : ws ≡ words_of_head b.edition b.is_open b.day ++ from_limits
+  abbrev from_opened : List ℕ
+  from_opened = words_of_day b.opened ++ from_limits
+
+  in_parts : ws ≡ words_of_head b.edition b.is_open ++ from_opened
   unfolding words_of_book
   in_parts = simp append_assoc
 
+  at_opened : drop at.opened ws ≡ from_opened
+  at_opened = ap (drop at.opened) in_parts
+
   at_limits : drop at.limits ws ≡ from_limits
-  at_limits = ap (drop at.limits) in_parts
+  at_limits = after-part ws (words_of_day b.opened) from_limits at.opened _ at_opened (day_long b.opened)
 
   at_standings : drop at.standings ws ≡ from_standings
   at_standings = after-part ws (flat words_of_limit (limits_of b.products)) from_standings at.limits _ at_limits (limits_long b s)
@@ -174,6 +181,11 @@ module _ (b : Book) (s : Shaped b) (rest : List ℕ) where
       (flags_are b.standings)
 
   module _ (sound : is_sound (view b) ≡ true) where
+    opened_back : day_of (part at.opened day_words ws) ≡ b.opened
+    opened_back =
+        rw (part_is ws (words_of_day b.opened) from_limits at.opened _ at_opened (day_long b.opened))
+        (day_back b.opened (λ d e. true_day b sound d e))
+
     limits_back : chunks limit_words limit_of 8 (part at.limits (8 * limit_words) ws) ≡ (limits_of b.products)
     limits_back =
         rw (part_is ws (flat words_of_limit (limits_of b.products)) from_standings at.limits _ at_limits (limits_long b s))
@@ -201,7 +213,7 @@ module _ (b : Book) (s : Shaped b) (rest : List ℕ) where
 
     as_book_lem : as_book ws ≡ b
     as_book_lem =
-        rw (limits_back, standings_back, windows_back, today_back, last_back, items_back b.products s.products, ap (λ l. get_or l at.edition 0) in_parts, ap (λ l. get_or l at.is_open 0) in_parts, ap (λ l. get_or l at.year 0) in_parts, ap (λ l. get_or l at.month 0) in_parts, ap (λ l. get_or l at.day 0) in_parts, ap (λ l. get_or l at.left 0) in_parts, flag_back b.is_open)
+        rw (opened_back, limits_back, standings_back, windows_back, today_back, last_back, items_back b.products s.products, ap (λ l. get_or l at.edition 0) in_parts, ap (λ l. get_or l at.is_open 0) in_parts, flag_back b.is_open)
 
     pub back : book_in ws ≡ b
     unfolding book_in

@@ -1,5 +1,5 @@
 -- The words of a list, and the list in words: the part of each element, and that the one undoes the other.
-use Rattle.std.proofs.Common.{ℕ, ◌+◌, ◌-◌, ◌*◌, ◌<◌, ◌≤◌, ◌≡◌, refl, sym, ◌∙◌, ap, List, [], ◌∷◌, ◌++◌, length, get_or, map, take, arith}
+use Rattle.std.proofs.Common.{ℕ, zero, suc, ◌+◌, ◌-◌, ◌*◌, ◌<◌, ◌≤◌, ◌≡◌, refl, sym, ◌∙◌, ap, List, [], ◌∷◌, ◌++◌, length, get_or, take, drop, arith}
 use Rattle.std.specs.List.{All}
 use Rattle.std.proofs.lemmas.List.{take_all, take_more}
 use Rattle.std.proofs.lemmas.List.Elements.{All-head, All-tail}
@@ -7,7 +7,7 @@ use mathlib.Core.List.{append-nil, append_assoc}
 use native.Mathlib.Nat.{mul-suc, mul-zero, add_comm, mul_comm, add-sub_cancel_left}
 use native.Mathlib.Numerals.{add-one}
 use lib.ListN.{length-append}
-use lib.Seq.{take_at, drop_at}
+use lib.Seq.{take_at, drop_at, drop-drop}
 use borrow.Rule.Slice.PartMut.{put_mid}
 use Rattle.image.specs.Words.{flat, chunks}
 use Rattle.image.proofs.Begun.{Begun, begun, begun_next, begun_all}
@@ -55,6 +55,17 @@ module _ {A : Type 0} (words : A → List ℕ) where
     pub flat_sized : (n : ℕ) (l : List A) → length l ≡ n → Sized l → length (flat words l) ≡ k * n
     flat_sized n l long e = flat_long l e ∙ ap (λ m. k * m) long
 
+    -- the words of one element
+    pub flat_at : (l : List A) (p : ℕ) (d : A) → Sized l → p < length l → take k (drop (k * p) (flat words l)) ≡ words (get_or l p d)
+    unfolding flat
+    flat_at [] p d e h = absurd (omega arith)
+    flat_at (a ∷ l) zero d e h = rw (mul-zero k) (take_at (words a) (flat words l) k (All-head (λ a. length (words a) ≡ k) a l e))
+    flat_at (a ∷ l) (suc p) d e h =
+        let one = All-head (λ a. length (words a) ≡ k) a l e in
+        let less : p < length l = omega arith in
+        rw (mul-suc k p, add_comm (k * p) k, ← (drop-drop (k * p) k (words a ++ flat words l)), drop_at (words a) (flat words l) k one)
+        (flat_at l p d (All-tail (λ a. length (words a) ≡ k) a l e) less)
+
     -- the list of the words of a list
     chunks_flat : (of : List ℕ → A) (l : List A) → Sized l → All (λ a. of (words a) ≡ a) l → chunks k of (length l) (flat words l) ≡ l
     unfolding chunks flat
@@ -67,7 +78,10 @@ module _ {A : Type 0} (words : A → List ℕ) where
     pub chunks_back : (of : List ℕ → A) (n : ℕ) (l : List A) → length l ≡ n → Sized l → All (λ a. of (words a) ≡ a) l → chunks k of n (flat words l) ≡ l
     chunks_back of n l long e back = ap (λ m. chunks k of m (flat words l)) (sym long) ∙ chunks_flat of l e back
 
-pub flat-map : {A B : Type 0} (words : B → List ℕ) (f : A → B) (l : List A) → flat words (map f l) ≡ flat (λ a. words (f a)) l
-unfolding flat
-flat-map words f [] = refl
-flat-map words f (a ∷ l) = ap (λ r. words (f a) ++ r) (flat-map words f l)
+-- an element for each word
+pub chunks_single : (n : ℕ) (ws : List ℕ) → length ws ≡ n → chunks 1 (λ xs. get_or xs 0 0) n ws ≡ ws
+unfolding chunks
+chunks_single zero [] e = refl
+chunks_single zero (w ∷ ws) e = absurd (omega arith)
+chunks_single (suc n) [] e = absurd (omega arith)
+chunks_single (suc n) (w ∷ ws) e = let rest : length ws ≡ n = omega arith in ap (λ r. w ∷ r) (chunks_single n ws rest)

@@ -4,6 +4,8 @@ use mathlib.Core.Path.{◌≡◌, refl, ◌∙◌}
 use mathlib.Core.List.{List, map}
 use native.Mathlib.Omega.{arith}
 use lib.ListN.{length, get_or, length-map, length-append}
+use Rattle.std.specs.Prelude.{Option, Some, None}
+use Rattle.record.specs.declared.Day.{Day}
 use Rattle.record.specs.declared.Event.{Event}
 use Rattle.record.specs.declared.Event.TheVariants.{Quiet, Triggered, Held, Reverted, Raised}
 use Rattle.record.specs.State.{group_count}
@@ -13,10 +15,10 @@ use Rattle.windows.specs.Windows.{no_window}
 use Rattle.grain.specs.declared.amounts.Limit.{Limit}
 use Rattle.book.specs.declared.Book.{Book}
 use Rattle.book.specs.Book.{no_limit, no_sheet}
-use Rattle.image.specs.Places.{limit_words, standing_words, windows_words, contract_words, sheet_words, event_words}
+use Rattle.image.specs.Places.{day_words, limit_words, standing_words, windows_words, contract_words, sheet_words, event_words}
 use Rattle.image.specs.Places as at
 use Rattle.image.specs.Words.{flat}
-use Rattle.image.specs.Image.{count_word, limits_of, windows_of, todays_of, lasts_of, words_of_limit, words_of_standing, words_of_windows, words_of_contract, words_of_sheet, words_of_book}
+use Rattle.image.specs.Image.{count_word, limits_of, windows_of, todays_of, lasts_of, words_of_day, words_of_limit, words_of_standing, words_of_windows, words_of_contract, words_of_sheet, words_of_book}
 use Rattle.image.specs.Answers.{words_of_event}
 use Rattle.image.specs.Put.{SheetsPut, WindowsPut, Shaped}
 use Rattle.image.proofs.Chunks.{Sized, flat_long, flat_sized}
@@ -40,6 +42,10 @@ sheets_sized ss s =
 
 pub sheets_long : (ss : List Sheet) → SheetsPut ss → length (flat words_of_sheet ss) ≡ 8 * sheet_words
 sheets_long ss s = flat_sized words_of_sheet sheet_words 8 ss s.all (sheets_sized ss s)
+
+pub day_long : (o : Option Day) → length (words_of_day o) ≡ day_words
+day_long None = refl
+day_long (Some d) = refl
 
 event_long : (e : Event) → length (words_of_event e) ≡ event_words
 event_long Quiet = refl
@@ -86,4 +92,4 @@ module _ (b : Book) (s : Shaped b) where
   unfolding words_of_book
   book_long =
       simp
-      (length-append, limits_long, standings_long, windows_long (windows_of b.products) s.windows, sheets_long (todays_of b.products) s.today, sheets_long (lasts_of b.products) s.last)
+      (length-append, day_long b.opened, limits_long, standings_long, windows_long (windows_of b.products) s.windows, sheets_long (todays_of b.products) s.today, sheets_long (lasts_of b.products) s.last)

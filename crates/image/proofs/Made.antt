@@ -1,13 +1,12 @@
 -- An array made by a closure that keeps what it captured: its elements are what the closure gives at each index, or of each element of another.
-use Rattle.std.proofs.Common.{ℕ, zero, suc, ◌+◌, ◌*◌, ◌<◌, ◌≤◌, ◌≡◌, refl, sym, ◌∙◌, ap, subst, List, ◌∷◌, length, get_or, take, drop, map, arith}
+use Rattle.std.proofs.Common.{ℕ, zero, suc, ◌+◌, ◌*◌, ◌<◌, ◌≤◌, ◌≡◌, refl, sym, ◌∙◌, ap, subst, List, ◌∷◌, length, take, drop, map, arith}
 use Rattle.std.specs.Fn.{Mut, Called}
 use Rattle.std.specs.Array.{IsFromFnResult, IsFromFnResultFrom, IsMapOf, MapsFrom}
 use Rattle.std.specs.List.{range_with_len}
-use Rattle.std.proofs.lemmas.List.FromFn.{fill_by_all}
 use native.Mathlib.Nat.{mul-suc, mul-zero}
 use native.Mathlib.Numerals.{add-one}
 use lib.ListN.{drop_of_length-le}
-use lib.Seq.{drop-drop, drop-cons, length-take-le, get_or-take}
+use lib.Seq.{drop-drop, drop-cons}
 use Rattle.image.specs.Words.{chunks}
 
 module _ {F B : Type 0} (g : Mut F (ℕ × Unit {0}) B) (value : ℕ → B) (f : F)

@@ -1,5 +1,5 @@
 -- The words of a book, and the book in words.
-use Rattle.std.specs.Prelude.{ℕ, ◌+◌, ◌*◌, Bool, cond, List, [], ◌∷◌, ◌++◌, map, eqb, leb, ltb, get_or}
+use Rattle.std.specs.Prelude.{ℕ, ◌+◌, ◌*◌, Bool, ◌&&◌, cond, List, [], ◌∷◌, ◌++◌, map, eqb, leb, ltb, get_or, Option, Some, None}
 use Rattle.grain.specs.Lists.{◌and◌, every}
 use Rattle.grain.specs.Products.{product_count}
 use Rattle.grain.specs.Amounts.{window_length}
@@ -16,7 +16,7 @@ use Rattle.book.specs.declared.product.Product.{Product as Held}
 use Rattle.book.specs.Book.{no_limit, no_sheet}
 use Rattle.book.specs.Numbers.{all_products}
 use Rattle.book.specs.Founding.{no_book}
-use Rattle.image.specs.Places.{format_number, limit_words, standing_words, windows_words, contract_words, sheet_words}
+use Rattle.image.specs.Places.{format_number, day_words, limit_words, standing_words, windows_words, contract_words, sheet_words}
 use Rattle.image.specs.Places as at
 use Rattle.image.specs.Words.{part, flat, chunks}
 
@@ -28,8 +28,13 @@ flag_word b = cond b 1 0
 abbrev pub count_word : ℕ → ℕ → ℕ
 count_word most n = cond (leb n most) n (most + 1)
 
-abbrev pub words_of_head : ℕ → Bool → Day → List ℕ
-words_of_head edition is_open d = format_number ∷ edition ∷ flag_word is_open ∷ d.year ∷ d.month ∷ d.day ∷ d.left ∷ []
+abbrev pub words_of_head : ℕ → Bool → List ℕ
+words_of_head edition is_open = format_number ∷ edition ∷ flag_word is_open ∷ []
+
+-- four zeros where there is none
+abbrev pub words_of_day : Option Day → List ℕ
+words_of_day None = 0 ∷ 0 ∷ 0 ∷ 0 ∷ []
+words_of_day (Some d) = d.year ∷ d.month ∷ d.day ∷ d.left ∷ []
 
 abbrev pub words_of_limit : Limit → List ℕ
 words_of_limit l = l.initial ∷ l.expanded ∷ []
@@ -62,7 +67,8 @@ lasts_of items = map (λ (h : Held). h.last) items
 
 unfoldable pub words_of_book : Book → List ℕ
 words_of_book b =
-    words_of_head b.edition b.is_open b.day
+    words_of_head b.edition b.is_open
+    ++ words_of_day b.opened
     ++ flat words_of_limit (limits_of b.products)
     ++ flat words_of_standing b.standings
     ++ words_of_windows (windows_of b.products)
@@ -85,19 +91,25 @@ contract_of ws = record { month = get_or ws 0 0; settlement = get_or ws 1 0 }
 unfoldable pub sheet_of : List ℕ → Sheet
 sheet_of ws = record { contracts = chunks contract_words contract_of max_contracts (part 1 (max_contracts * contract_words) ws); len = get_or ws 0 0 }
 
-abbrev pub day_of : List ℕ → Day
+-- four zeros
+abbrev pub is_no_day : Day → Bool
+is_no_day d = eqb d.year 0 && eqb d.month 0 && eqb d.day 0 && eqb d.left 0
+
+-- words of which only some are 0 are a day, which soundness then judges
+abbrev pub day_of : List ℕ → Option Day
 day_of ws =
-    record { year = get_or ws at.year 0; month = get_or ws at.month 0; day = get_or ws at.day 0; left = get_or ws at.left 0 }
+    let d : Day = record { year = get_or ws 0 0; month = get_or ws 1 0; day = get_or ws 2 0; left = get_or ws 3 0 } in
+    cond (is_no_day d) None (Some d)
 
 abbrev pub limits_in : List ℕ → List Limit
 limits_in ws = chunks limit_words limit_of product_count (part at.limits (product_count * limit_words) ws)
 
 -- from the words of the windows alone
+abbrev pub window_in : List ℕ → ℕ → Window
+window_in ws p = record { settlements = part (product_count + window_length * p) window_length ws; size = get_or ws p 0 }
+
 unfoldable pub windows_in : List ℕ → List Window
-windows_in ws =
-    map
-    (λ p. record { settlements = get_or (chunks window_length (λ xs. xs) product_count (part product_count (product_count * window_length) ws)) p []; size = get_or ws p 0 })
-    all_products
+windows_in ws = map (window_in ws) all_products
 
 abbrev pub todays_in : List ℕ → List Sheet
 todays_in ws = chunks sheet_words sheet_of product_count (part at.today (product_count * sheet_words) ws)
@@ -116,7 +128,7 @@ as_book ws =
       edition = get_or ws at.edition 0;
       standings = chunks standing_words standing_of group_count (part at.standings (group_count * standing_words) ws);
       products = items_by (limits_in ws) (windows_in (part at.windows windows_words ws)) (todays_in ws) (lasts_in ws);
-      day = day_of ws;
+      opened = day_of (part at.opened day_words ws);
       is_open = eqb (get_or ws at.is_open 0) 1;
     }
 

@@ -14,6 +14,10 @@ limit_words = 2
 abbrev pub standing_words : ℕ
 standing_words = 2
 
+-- a date and its left
+abbrev pub day_words : ℕ
+day_words = 4
+
 -- a size for each product, and the places of all windows
 abbrev pub windows_words : ℕ
 windows_words = product_count + product_count * window_length
@@ -38,20 +42,11 @@ edition = format + 1
 abbrev pub is_open : ℕ
 is_open = edition + 1
 
-abbrev pub year : ℕ
-year = is_open + 1
-
-abbrev pub month : ℕ
-month = year + 1
-
-abbrev pub day : ℕ
-day = month + 1
-
-abbrev pub left : ℕ
-left = day + 1
+abbrev pub opened : ℕ
+opened = is_open + 1
 
 abbrev pub limits : ℕ
-limits = left + 1
+limits = opened + day_words
 
 abbrev pub standings : ℕ
 standings = limits + product_count * limit_words

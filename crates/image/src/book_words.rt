@@ -10,10 +10,9 @@ use crate::flags::{are_flags, is_flag};
 use crate::places;
 use crate::places::WORDS;
 use crate::window_words::{put_windows, windows_in};
-use crate::words::{put_all, read_all};
+use crate::words::{FromWords, ToWords, put_all, read_all};
 use book::{Book, Product};
 use grain::{Limit, PRODUCT_COUNT};
-use record::Day;
 use sheets::Sheet;
 use std::array;
 use windows::Window;
@@ -54,30 +53,17 @@ pub fn book_in(w: &[u32; WORDS]) -> Book
         edition: w[places::EDITION],
         standings: read_all(&w[places::STANDINGS..places::WINDOWS]),
         products: products_in(w),
-        day: Day {
-            year: w[places::YEAR],
-            month: w[places::MONTH],
-            day: w[places::DAY],
-            left: w[places::LEFT],
-        },
+        opened: FromWords::read(&w[places::OPENED..places::LIMITS]),
         is_open: w[places::IS_OPEN] == 1,
     }
 }
 
-// All before the limits.
+// All before the last opened day.
 fn write_head(out: &mut [u32], b: &Book)
-    requires { length out.old ≡ at.limits }
-    ensures { out.new ≡ words_of_head b.now.edition b.now.is_open b.now.day }
+    requires { length out.old ≡ at.opened }
+    ensures { out.new ≡ words_of_head b.now.edition b.now.is_open }
 {
-    out.copy_from_slice(&[
-        places::FORMAT_NUMBER,
-        b.edition,
-        u32::from(b.is_open),
-        b.day.year,
-        b.day.month,
-        b.day.day,
-        b.day.left,
-    ]);
+    out.copy_from_slice(&[places::FORMAT_NUMBER, b.edition, u32::from(b.is_open)]);
 }
 
 // The parts of the products, each of all of them, as an image has them.
@@ -109,7 +95,8 @@ pub(crate) fn write_book(w: &mut [u32; WORDS], b: &Book)
     ensures { BookPut w.old b.now w.new }
 {
     let parts = parts_of(&b.products);
-    write_head(&mut w[places::FORMAT..places::LIMITS], b);
+    write_head(&mut w[places::FORMAT..places::OPENED], b);
+    b.opened.put(&mut w[places::OPENED..places::LIMITS]);
     put_all(&parts.limits, &mut w[places::LIMITS..places::STANDINGS]);
     put_all(&b.standings, &mut w[places::STANDINGS..places::WINDOWS]);
     put_windows(&parts.windows, &mut w[places::WINDOWS..places::TODAY]);

@@ -5,8 +5,10 @@
 mod answer_words;
 mod book_words;
 mod counts;
+mod day_words;
 mod flags;
 mod limit_words;
+mod numbers;
 mod places;
 mod sheet_words;
 mod standing_words;

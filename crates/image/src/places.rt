@@ -9,6 +9,9 @@ pub const LIMIT_WORDS: usize = 2;
 
 pub const STANDING_WORDS: usize = 2;
 
+// A date and its left.
+pub const DAY_WORDS: usize = 4;
+
 // The places of all windows.
 pub const SETTLEMENTS: usize = PRODUCT_COUNT * WINDOW_LENGTH;
 
@@ -29,15 +32,9 @@ pub const EDITION: usize = FORMAT + 1;
 
 pub const IS_OPEN: usize = EDITION + 1;
 
-pub const YEAR: usize = IS_OPEN + 1;
+pub const OPENED: usize = IS_OPEN + 1;
 
-pub const MONTH: usize = YEAR + 1;
-
-pub const DAY: usize = MONTH + 1;
-
-pub const LEFT: usize = DAY + 1;
-
-pub const LIMITS: usize = LEFT + 1;
+pub const LIMITS: usize = OPENED + DAY_WORDS;
 
 pub const STANDINGS: usize = LIMITS + PRODUCT_COUNT * LIMIT_WORDS;
 

@@ -1,38 +1,17 @@
 // The windows as words: the sizes, then the settlements of each.
-ghost use Rattle.std.specs.Prelude.{◌≡◌, length};
+ghost use Rattle.std.specs.Prelude.{◌≡◌, ◌<◌, length};
+ghost use Rattle.grain.specs.Products.{product_count};
 ghost use Rattle.grain.specs.Amounts.{window_length};
 ghost use Rattle.image.specs.Places.{windows_words};
-ghost use Rattle.image.specs.Image.{windows_in, words_of_windows};
+ghost use Rattle.image.specs.Image.{window_in, windows_in, words_of_windows};
 ghost use Rattle.image.specs.Put.{WindowsPut};
 
 use crate::counts::count_word;
 use crate::places::WINDOWS_WORDS;
-use crate::words::{FromWords, ToWords, put_all, read_all};
+use crate::words::{ToWords, put_all, read_all};
 use grain::{PRODUCT_COUNT, WINDOW_LENGTH};
 use std::array;
 use windows::Window;
-
-impl ToWords for [u32; WINDOW_LENGTH] {
-    const COUNT: usize = WINDOW_LENGTH;
-
-    ghost COUNT = { window_length };
-
-    ghost words_of = { λ settlements. settlements };
-
-    fn put(self, out: &mut [u32]) {
-        out.copy_from_slice(&self);
-    }
-}
-
-impl FromWords for [u32; WINDOW_LENGTH] {
-    ghost of_words = { λ words. words };
-
-    fn read(words: &[u32]) -> [u32; WINDOW_LENGTH] {
-        let mut settlements = [0; WINDOW_LENGTH];
-        settlements.copy_from_slice(words);
-        settlements
-    }
-}
 
 // Of a window its settlements alone: the sizes of all stand before them.
 impl ToWords for Window {
@@ -43,7 +22,21 @@ impl ToWords for Window {
     ghost words_of = { λ w. w.settlements };
 
     fn put(self, out: &mut [u32]) {
-        self.settlements.put(out);
+        put_all(&self.settlements, out);
+    }
+}
+
+// Of product p.
+fn window_in(words: &[u32], p: usize) -> Window
+    requires long { length words.now ≡ windows_words }
+    requires place { p < product_count }
+    ensures { result ≡ window_in words.now p }
+{
+    let at = PRODUCT_COUNT + WINDOW_LENGTH * p;
+    let past = at + WINDOW_LENGTH;
+    Window {
+        settlements: read_all(&words[at..past]),
+        size: words[p] as usize,
     }
 }
 
@@ -51,13 +44,7 @@ pub(crate) fn windows_in(words: &[u32]) -> [Window; PRODUCT_COUNT]
     requires { length words.now ≡ windows_words }
     ensures { result ≡ windows_in words.now }
 {
-    let settlements: [[u32; WINDOW_LENGTH]; PRODUCT_COUNT] = read_all(
-        &words[PRODUCT_COUNT..WINDOWS_WORDS],
-    );
-    array::from_fn(|p| Window {
-        settlements: settlements[p],
-        size: words[p] as usize,
-    })
+    array::from_fn(|p| window_in(words, p))
 }
 
 pub(crate) fn put_windows(windows: &[Window; PRODUCT_COUNT], out: &mut [u32])

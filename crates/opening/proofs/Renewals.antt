@@ -3,12 +3,13 @@ use Prim.Native.Nat.{ℕ, ◌<◌}
 use mathlib.Core.Path.{◌≡◌, refl, sym, ◌∙◌, ap}
 use mathlib.Core.Bool.{Bool, true, false, cond}
 use mathlib.Core.List.{[], map}
+use Rattle.std.specs.Prelude.{Some}
 use Rattle.std.specs.List.{list_any}
 use Rattle.grain.specs.Products.{product_count}
 use Rattle.grain.proofs.Every.{any_mapped}
 use Rattle.record.specs.declared.Day.{Day}
 use Rattle.record.specs.State.{Common, group_count, initial, group_table}
-use Rattle.record.specs.Opening.{is_true_day, is_next_season, is_other_season, is_renewed, open_product, has_new_limits, open_group}
+use Rattle.record.specs.Opening.{is_next_season, is_other_season, is_renewed, open_product, has_new_limits, open_group}
 use Rattle.record.specs.Record.{opening, opened, answer, next, next_common, next_group}
 use Rattle.record.specs.History.{products_of}
 use Rattle.windows.specs.declared.Window.{Window}
@@ -16,23 +17,22 @@ use Rattle.windows.specs.Windows.{kept_of, shown, empty_window}
 use Rattle.book.specs.declared.product.Product.{Product as Held}
 use Rattle.book.specs.declared.Book.{Book}
 use Rattle.book.specs.declared.Standing.{Standing}
-use Rattle.book.specs.Book.{window_of, items_in, standing_in, level_of, opened_of, view_product, view_group, view_common, view, view_held}
+use Rattle.book.specs.Book.{window_of, items_in, standing_in, level_of, view_product, view_group, view_common, view, view_held}
 use Rattle.book.specs.Numbers.{all_products}
 use Rattle.book.proofs.Views.{group_view, next-view}
 use Rattle.opening.specs.Opens.{is_renewed_by, items_on, standing_on}
-use Rattle.opening.proofs.TrueDays.{opened_is}
 
 -- the product gets its season limits
 abbrev pub renewed_on : Book → Day → ℕ → Bool
-renewed_on b d p = is_renewed_by (is_next_season (opened_of b.day) d) (window_of b p)
+renewed_on b d p = is_renewed_by (is_next_season b.opened d) (window_of b p)
 
 -- the parts of the book after it
 pub record OpenedOn (b : Book) (d : Day) (z : Book) : Type 0 where
   pub items : (p : ℕ) → p < product_count
-      → items_in z p ≡ items_on (is_next_season (opened_of b.day) d) (is_other_season (opened_of b.day) d) p (items_in b p)
+      → items_in z p ≡ items_on (is_next_season b.opened d) (is_other_season b.opened d) p (items_in b p)
   pub standings : (g : ℕ) → g < group_count → standing_in z g ≡ standing_on (list_any (renewed_on b d) (products_of g)) (standing_in b g)
   pub edition : z.edition ≡ b.edition
-  pub day : z.day ≡ d
+  pub opened : z.opened ≡ Some d
   pub is_open : z.is_open ≡ true
 
 -- the group gets new limits
@@ -80,12 +80,12 @@ module _ (b : Book) (d : Day) (z : Book) (on : OpenedOn b d z) where
       let stands : standing_in z g ≡ standing_on x (standing_in b g) = on.standings g l ∙ ap (λ (r : Bool). standing_on r (standing_in b g)) (sym (new_limits b d g)) in
       rw (group_view b z (open_product (view_common b) d) g l product_opened, stands, level_on x (standing_in b g), mark_on x (standing_in b g))
 
-  common_opened : is_true_day d ≡ true → view_common z ≡ next_common (view_common b) (opening d)
+  common_opened : view_common z ≡ next_common (view_common b) (opening d)
   unfolding view_common next_common
-  common_opened t = rw (on.edition, on.day, on.is_open, opened_is d t)
+  common_opened = rw (on.edition, on.opened, on.is_open)
 
-  pub opened_view : is_true_day d ≡ true → view z ≡ next (view b) (opening d)
-  opened_view t = next-view b z (opening d) (common_opened t) group_opened
+  pub opened_view : view z ≡ next (view b) (opening d)
+  opened_view = next-view b z (opening d) common_opened group_opened
 
 -- the answers, product by product
 pub renewed-answer : (b : Book) (d : Day) → opened (map (renewed_on b d) all_products) ≡ answer (view b) (opening d)

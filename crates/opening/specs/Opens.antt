@@ -1,12 +1,11 @@
 -- What an opening promises, whatever the book and the date; and what it does to a product's items and a group's level and mark.
-use Rattle.std.specs.Prelude.{ℕ, ◌≡◌, Bool, true, false, ◌&&◌, cond, List, eqb, length, get_or, replicate, Option, Some, None, unwrap_or, Result, Ok, Err}
+use Rattle.std.specs.Prelude.{ℕ, Bool, false, ◌&&◌, cond, List, eqb, length, get_or, replicate, Option, Some, None, unwrap_or, Result, Ok, Err}
 use Rattle.std.specs.List.{list_any}
 use Rattle.grain.specs.Products.{product_count}
 use Rattle.grain.specs.Amounts.{window_length, expanded_of, season_of}
 use Rattle.grain.specs.declared.amounts.Limit.{Limit}
 use Rattle.grain.specs.declared.refusals.Refusal.{Refusal}
 use Rattle.record.specs.declared.Day.{Day}
-use Rattle.record.specs.Opening.{is_true_day}
 use Rattle.record.specs.Record.{opening, Answer, opened}
 use Rattle.windows.specs.Windows.{empty_window, shown}
 use Rattle.book.specs.declared.product.Product.{Product as Held}
@@ -28,11 +27,6 @@ Opens b d r after = Responds b (opening d) (opened_as r) after
 abbrev pub renewed_in : Result (List Bool) Refusal → List Bool
 renewed_in (Ok l) = l
 renewed_in (Err e) = replicate product_count false
-
--- no day, or a date with its left
-abbrev pub NoneOrTrue : Option Day → Type 0
-NoneOrTrue None = Unit {0}
-NoneOrTrue (Some d) = is_true_day d ≡ true
 
 -- one season later, with a full window
 abbrev pub is_renewed_by : Bool → List ℕ → Bool

@@ -2,7 +2,6 @@
 #![tactic(auto)]
 
 ghost use Rattle.std.specs.Prelude.{◌≡◌, true};
-ghost use Rattle.record.specs.Opening.{is_true_day};
 ghost use Rattle.record.specs.Record.{answer, next as next_state, opening as call, opened as answered};
 ghost use Rattle.record.specs.Sound.{is_sound};
 ghost use Rattle.book.specs.Book.{view};
@@ -12,14 +11,13 @@ use book::Book;
 use grain::{PRODUCT_COUNT, Refusal};
 use record::Day;
 
-mod last;
+mod dates;
 mod refusals;
 mod renewal;
 mod seasons;
 mod standings;
 
-use last::last_opened;
-use refusals::refusal_of;
+use dates::Dates;
 use renewal::open_products;
 use seasons::SeasonChange;
 use standings::standings_on;
@@ -40,19 +38,20 @@ pub fn opening(
         day,
         left,
     };
-    refusal_of(b, d)?;
-    Ok(accept(b, d))
+    let dates = Dates::of(b, d)?;
+    Ok(accept(b, &dates))
 }
 
 // What an accepted opening does: new limits, with them the initial level, and the emptying of windows; sheets stay.
-fn accept(b: &mut Book, d: Day) -> [bool; PRODUCT_COUNT]
-    requires { (is_sound (view b.old) ≡ true) × (is_true_day d ≡ true) }
-    ensures { (answered result ≡ answer (view b.old) (call d)) × (view b.new ≡ next_state (view b.old) (call d)) }
+fn accept(b: &mut Book, dates: &Dates) -> [bool; PRODUCT_COUNT]
+    requires sound { is_sound (view b.old) ≡ true }
+    requires last { dates.now.last ≡ b.old.opened }
+    ensures { (answered result ≡ answer (view b.old) (call dates.now.day)) × (view b.new ≡ next_state (view b.old) (call dates.now.day)) }
 {
-    let change = SeasonChange::since(last_opened(b), d);
+    let change = SeasonChange::of(dates);
     let renewed = open_products(change, &mut b.products);
     b.standings = standings_on(&renewed, b.standings);
-    b.day = d;
+    b.opened = Some(dates.day);
     b.is_open = true;
     renewed
 }

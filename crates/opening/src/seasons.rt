@@ -1,8 +1,8 @@
 // The season of a date against that of the last opened day.
 ghost use Rattle.std.specs.Prelude.{◌≡◌, true};
 ghost use Rattle.record.specs.Opening.{is_true_day, season_on, is_next_season, is_other_season};
-ghost use Rattle.opening.specs.Opens.{NoneOrTrue};
 
+use crate::dates::Dates;
 use record::Day;
 
 // The season's number of a true day.
@@ -28,14 +28,13 @@ pub(crate) struct SeasonChange {
 
 impl SeasonChange {
     // The first opening has no season before it.
-    pub(crate) fn since(last: Option<Day>, d: Day) -> SeasonChange
-        requires { NoneOrTrue last × (is_true_day d ≡ true) }
-        ensures { (result.renews ≡ is_next_season last d) × (result.empties ≡ is_other_season last d) }
+    pub(crate) fn of(dates: &Dates) -> SeasonChange
+        ensures { (result.renews ≡ is_next_season dates.now.last dates.now.day) × (result.empties ≡ is_other_season dates.now.last dates.now.day) }
     {
-        let Some(before) = last else {
+        let Some(before) = dates.last else {
             return SeasonChange::default();
         };
-        let season = season_of(d);
+        let season = season_of(dates.day);
         let season_before = season_of(before);
         SeasonChange {
             renews: season == season_before + 1,

@@ -4,3 +4,4 @@ pub mod Soundness
 pub mod InOneLoop
 pub mod Lookups
 pub mod Yielded
+pub mod Defaults

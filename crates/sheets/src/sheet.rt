@@ -5,7 +5,7 @@ ghost use Rattle.sheets.specs.Sheets.{empty_sheet, entries_of, sheet_in};
 use record::{Contract, MAX_CONTRACTS};
 
 // No heap: the places are there whatever the count. An image from C can hold any count, which soundness then judges.
-#[derive(Clone, Copy, Debug, PartialEq, Eq)]
+#[derive(Clone, Copy, Debug, Default, PartialEq, Eq)]
 pub struct Sheet {
     pub contracts: [Contract; MAX_CONTRACTS],
     // How many of the places are used; 0 where there is no sheet, and then an image from C keeps what it has in the places.
@@ -17,10 +17,7 @@ impl Sheet {
         ensures value { result ≡ empty_sheet }
         ensures none { sheet_in result ≡ None }
     {
-        Sheet {
-            contracts: [Contract::default(); MAX_CONTRACTS],
-            len: 0,
-        }
+        Sheet::default()
     }
 
     pub fn is_none(&self) -> bool

@@ -77,7 +77,7 @@ impl Sheet {
     pub fn is_sound(&self, product: u32) -> bool
         ensures { result ≡ is_sound_sheet product (sheet_in self.now) }
     {
-        if self.len == 0 {
+        if self.is_none() {
             return true;
         }
         if MAX_CONTRACTS < self.len {

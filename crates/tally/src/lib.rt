@@ -7,6 +7,7 @@ mod through;
 mod words;
 
 pub use kinds::Kind;
+pub use words::TALLY_WORDS;
 
 #[derive(Clone, Copy, Debug, Default, PartialEq, Eq)]
 pub struct Tally {

@@ -4,10 +4,12 @@ ghost use Rattle.tally.specs.Words.{tally_in, words_of_tally};
 
 use crate::Tally;
 
-impl From<[u32; 6]> for Tally {
+pub const TALLY_WORDS: usize = 6;
+
+impl From<[u32; TALLY_WORDS]> for Tally {
     ghost from_gives = { λ words tally. tally ≡ tally_in words };
 
-    fn from(words: [u32; 6]) -> Tally {
+    fn from(words: [u32; TALLY_WORDS]) -> Tally {
         Tally {
             asked: words[0],
             free: words[1],
@@ -19,10 +21,10 @@ impl From<[u32; 6]> for Tally {
     }
 }
 
-impl From<Tally> for [u32; 6] {
+impl From<Tally> for [u32; TALLY_WORDS] {
     ghost from_gives = { λ tally words. words ≡ words_of_tally tally };
 
-    fn from(t: Tally) -> [u32; 6] {
+    fn from(t: Tally) -> [u32; TALLY_WORDS] {
         [t.asked, t.free, t.within, t.below, t.above, t.refused]
     }
 }

@@ -10,7 +10,7 @@ ghost use Rattle.windows.specs.Windows.{kept_of, shown, empty_window, Collects};
 use grain::{Limit, Refusal, WINDOW_LENGTH};
 
 // No heap: the places are there whatever the size. An image from C can hold any size, which soundness then judges.
-#[derive(Clone, Copy, Debug, PartialEq, Eq)]
+#[derive(Clone, Copy, Debug, Default, PartialEq, Eq)]
 pub struct Window {
     // Oldest first.
     pub settlements: [u32; WINDOW_LENGTH],
@@ -23,10 +23,7 @@ impl Window {
         ensures value { result ≡ empty_window }
         ensures nothing { shown result ≡ [] }
     {
-        Window {
-            settlements: [0; WINDOW_LENGTH],
-            size: 0,
-        }
+        Window::default()
     }
 
     // The settlements in the places that the size reaches.

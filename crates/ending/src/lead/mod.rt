@@ -1,9 +1,9 @@
 // The leading contract of a group: of those that meet an event's condition, the nearest month, then the lowest product number.
 ghost use Rattle.std.specs.Prelude.{◌≡◌, ◌+◌, ◌≤◌, ◌<◌, length, slice_range};
-ghost use Rattle.record.specs.History.{products_of};
 ghost use Rattle.record.specs.State.{group_count};
 ghost use Rattle.book.specs.Numbers.{products_before};
-ghost use Rattle.ending.specs.Lead.{lead_for, moves_of};
+ghost use Rattle.ending.specs.Lead.{lead_for};
+ghost use Rattle.ending.specs.Moves.{moves_in};
 ghost use Rattle.ending.specs.Search.{is_met, FirstMet};
 
 use crate::moves::{GroupMoves, ProductMoves};
@@ -32,7 +32,7 @@ impl GroupMoves<'_> {
     // The first product of the group whose contract of a month meets the condition.
     #[tactic(auto, using(book::proofs::ProductsBefore::before_small))]
     fn first_met(&self, condition: Condition, month: u32) -> Option<u32>
-        ensures { FirstMet (is_met condition self.now.date self.now.book.now month) (products_before self.now.group) (products_before (self.now.group + 1)) result }
+        ensures { FirstMet (is_met condition self.now.day.date self.now.day.book.now month) (products_before self.now.group) (products_before (self.now.group + 1)) result }
     {
         let first = book::products_before(self.group);
         let past = book::products_before(self.group + 1);
@@ -40,8 +40,8 @@ impl GroupMoves<'_> {
         for p in first..past {
             let product = p as u32;
             let moves = ProductMoves {
-                items: &self.book.products[p],
-                date: self.date,
+                items: &self.day.book.products[p],
+                date: self.day.date,
                 product,
             };
             if moves.meet(condition, month) {
@@ -52,11 +52,11 @@ impl GroupMoves<'_> {
     }
 
     pub(crate) fn leading(&self, condition: Condition) -> Option<Lead>
-        ensures { result ≡ lead_for condition (moves_of self.now.book.now self.now.date (products_of self.now.group)) }
+        ensures { result ≡ lead_for condition (moves_in self.now) }
     {
-        let products = products_of(self.book, self.group);
+        let products = products_of(self.day.book, self.group);
         // In the date's month every contract is spot.
-        let mut month = self.date.month;
+        let mut month = self.day.date.month;
         // Each turn starts from the month that the one before found.
         while let Some(next) = next_month(products, month) {
             if let Some(product) = self.first_met(condition, next) {

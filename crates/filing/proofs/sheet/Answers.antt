@@ -1,4 +1,4 @@
-use Rattle.std.proofs.Common.{rules, ◌≡◌, refl, sym, ◌∙◌, Result, Err, Some, None}
+use Rattle.std.proofs.Common.{rules, ◌≡◌, refl, sym, ◌∙◌, Result, Err, Some}
 use Rattle.grain.specs.Refusals.{number_of}
 use Rattle.grain.specs.declared.refusals.Refusal.{Refusal}
 use Rattle.record.specs.Record.{Call, sheet, filed, refusal, answer}
@@ -6,37 +6,34 @@ use Rattle.record.specs.Sheet.{contracts}
 use Rattle.book.specs.declared.Book.{Book}
 use Rattle.book.specs.Book.{view}
 use Rattle.book.specs.Calls.{Responds}
-use Rattle.book.proofs.TradeDates.{has_date, date_is}
-use Rattle.book.proofs.SoundFacts.{open_true}
+use Rattle.book.proofs.OpenDays.{is_sound_open}
+use Rattle.book.proofs.SoundFacts.{day_in}
 use Rattle.book.proofs.Responses.{refused_responds, accepted_responds}
 use Rattle.filing.specs.Files.{filed_as}
-use Rattle.filing.proofs.Filings.{made, refused_early, early, refusal_late, sheet_in_lem, filed_view}
+use Rattle.filing.proofs.Filings.{made, phase_refuses, early_refuses, early, refusal_late, sheet_in_lem, filed_view}
 use Rattle.filing.proofs.sheet.Goals as goal
 
 refused : (b : Book) (c : Call) (r : Result (Unit {0}) Refusal) (e : Refusal) → r ≡ Err e → Some (number_of e) ≡ refusal (view b) c
     → Responds b c (filed_as r) b
 refused b c r e is by = rw is (refused_responds b c (number_of e) (sym by))
 
+pub returns-in_err-date : goal.returns-in_err-date
+returns-in_err-date c =
+    let a = c.args in
+    refused a.b.now (sheet a.product a.months.now a.settlements.now) _ c.in_err-date.field-0.0 (search rules)
+    (sym (phase_refuses (view a.b.now) a.product a.months.now a.settlements.now _ (sym c.in_err-date.ensures.refusal)))
+
 pub returns-in_err-early_refusal : goal.returns-in_err-early_refusal
 returns-in_err-early_refusal c =
     let a = c.args in
     refused a.b.now (sheet a.product a.months.now a.settlements.now) _ c.in_err-early_refusal.field-0.0 (search rules)
-    (sym (refused_early (view a.b.now) a.product a.months.now a.settlements.now _ (sym c.in_err-early_refusal.ensures)))
-
-pub returns-in_err-date : goal.returns-in_err-date
-returns-in_err-date c =
-    let a = c.args in
-    let e = early a.b.now a.product a.months.now a.settlements.now (sym c.in_ok-early_refusal.ensures) in
-    let v = c.in_err-date.ensures.value in
-    let none : c.trade_date.result ≡ None = search rules in
-    absurd (has_date _ (open_true a.b.now e.sound e.is_open) c.trade_date.result c.trade_date.ensures none)
+    (sym (early_refuses (view a.b.now) a.product a.months.now a.settlements.now c.in_ok-date.ensures.refusal _ (sym c.in_err-early_refusal.ensures)))
 
 pub contract_refusal-requires : goal.contract_refusal-requires
 contract_refusal-requires c =
     let a = c.args in
     let e = early a.b.now a.product a.months.now a.settlements.now (sym c.in_ok-early_refusal.ensures) in
-    let some : c.trade_date.result ≡ Some c.in_ok-date.date = search rules in
-    (e.product, e.sound, date_is _ (open_true a.b.now e.sound e.is_open) c.trade_date.result _ c.trade_date.ensures some)
+    (e.product, is_sound_open a.b.now c.in_ok-date.ensures.refusal, rw (day_in a.b.now _ (c.in_ok-date.ensures.day _ refl)) c.in_ok-date.field-0.dated)
 
 pub returns-in_err-contract_refusal : goal.returns-in_err-contract_refusal
 returns-in_err-contract_refusal c =
@@ -44,7 +41,7 @@ returns-in_err-contract_refusal c =
     let e = early a.b.now a.product a.months.now a.settlements.now (sym c.in_ok-early_refusal.ensures) in
     let is = made a.months.now a.settlements.now c.of-sheet.result c.of-sheet.ensures e.arrays in
     refused a.b.now (sheet a.product a.months.now a.settlements.now) _ c.in_err-contract_refusal.field-0.0 (search rules)
-    (c.in_err-contract_refusal.ensures ∙ sym (refusal_late a.b.now a.product a.months.now a.settlements.now c.of-sheet.result e is))
+    (c.in_err-contract_refusal.ensures ∙ sym (refusal_late a.b.now a.product a.months.now a.settlements.now c.of-sheet.result c.in_ok-date.ensures.refusal e is))
 
 pub returns : goal.returns
 unfolding answer
@@ -56,5 +53,5 @@ returns c =
     let some_contract : s.len ≡ 0 → ⊥ = λ z. e.arrays.some_contract (sym is.len ∙ z) in
     let holds = sheet_in_lem s (contracts a.months.now a.settlements.now) some_contract (rw is.len e.arrays.fits) is.entries in
     accepted_responds a.b.now (sheet a.product a.months.now a.settlements.now) filed _
-    (refusal_late a.b.now a.product a.months.now a.settlements.now s e is ∙ sym c.in_ok-contract_refusal.ensures) refl
+    (refusal_late a.b.now a.product a.months.now a.settlements.now s c.in_ok-date.ensures.refusal e is ∙ sym c.in_ok-contract_refusal.ensures) refl
     (filed_view a.b.now a.product s a.months.now a.settlements.now (search rules) holds)

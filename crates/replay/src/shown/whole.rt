@@ -9,13 +9,12 @@ use std::fmt;
 use std::fmt::{Display, Formatter};
 use windows::Window;
 
-impl Display for Shown<'_, Day> {
+impl Display for Shown<'_, Option<Day>> {
     fn fmt<W: fmt::Write>(&self, f: &mut Formatter<W>) -> fmt::Result {
-        let day = *self.0;
-        if book::is_no_day(day) {
-            return write!(f, "none");
+        match self.0 {
+            Some(day) => write!(f, "{}-{}-{}", day.year, day.month, day.day),
+            None => write!(f, "none"),
         }
-        write!(f, "{}-{}-{}", day.year, day.month, day.day)
     }
 }
 
@@ -63,11 +62,10 @@ impl Display for Shown<'_, Book> {
     fn fmt<W: fmt::Write>(&self, f: &mut Formatter<W>) -> fmt::Result {
         let b = self.0;
         write!(f, "book open={}", u8::from(b.is_open))?;
-        write!(f, " date={}", Shown(&b.day))?;
-        if b.is_open {
-            write!(f, " left={}", b.day.left)?;
-        } else {
-            write!(f, " left=-")?;
+        write!(f, " date={}", Shown(&b.opened))?;
+        match b.opened {
+            Some(day) if b.is_open => write!(f, " left={}", day.left)?,
+            _ => write!(f, " left=-")?,
         }
         let levels = b.standings.iter().map(|s| u8::from(s.expanded));
         write_row(f, "level", levels, "")?;

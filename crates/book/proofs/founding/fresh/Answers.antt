@@ -1,6 +1,6 @@
 use Rattle.std.proofs.Common.{refl}
 use Rattle.book.specs.Book.{no_items}
-use Rattle.book.proofs.Defaults.{default_standing, default_day}
+use Rattle.book.specs.Founding.{no_book}
 use Rattle.book.proofs.Founded.{founded_shown}
 use Rattle.book.proofs.Filled.{filled_start, filled_next, filled_end}
 use Rattle.book.proofs.founding.fresh.Goals as goal
@@ -13,10 +13,8 @@ loop-p-preserved c =
     filled_next 8 no_items _ _ c.loop-p.p _ c.loop-p.invariant c.loop-p-test.true _ (rw (c.none-empty.ensures, c.expanded.ensures))
 
 pub returns : goal.returns
+unfolding no_book
 returns c =
-    let standing = default_standing c.default.result c.default.ensures.0 c.default.ensures.1 in
-    let e = c.default-2.ensures in
-    let day = default_day c.default-2.result e.0 e.1.0 e.1.1.0 e.1.1.1 in
-    rw (standing, day)
+    rw c.none.ensures
     (founded_shown (record { edition = c.args.edition; limits = c.args.limits }) c.loop-p.products
     (filled_end 8 no_items _ _ c.loop-p.p _ c.loop-p.invariant c.loop-p-test.false))

@@ -1,11 +1,10 @@
-use mathlib.Core.Path.{sym, ◌∙◌}
 use Rattle.record.specs.Sound.{is_sound_date}
 use Rattle.book.proofs.soundness.is_sound_date.Goals as goal
 
-pub returns-then-is_no_day : goal.returns-then-is_no_day
+pub returns-in-Some : goal.returns-in-Some
 unfolding is_sound_date
-returns-then-is_no_day c = rw (sym c.is_no_day.ensures ∙ c.if-is_no_day.true)
+returns-in-Some c = rw c.in-Some.is c.is_true_day.ensures
 
-pub returns : goal.returns
+pub returns-in-None : goal.returns-in-None
 unfolding is_sound_date
-returns c = rw (sym c.is_no_day.ensures ∙ c.if-is_no_day.false) c.is_true_day.ensures
+returns-in-None c = rw c.in-None.is

@@ -1,5 +1,6 @@
-use Rattle.gateway.proofs.Leaves.{accepted_founding}
+use Rattle.std.proofs.Common.{rules}
+use Rattle.gateway.proofs.Leaves.{written_founding}
 use Rattle.gateway.proofs.calls.botskhela_found.Goals as goal
 
-pub returns-in-Ok : goal.returns-in-Ok
-returns-in-Ok c = accepted_founding c.args.words.now _ c.in-Ok.fresh c.in-Ok.ensures _ c.put_founded.ensures
+pub returns : goal.returns
+returns c = written_founding c.args.words.now _ _ (λ lent b left p. search rules) _ _ _ c.found-fresh.ensures c.write.ensures

@@ -1,4 +1,4 @@
-use Rattle.std.proofs.Common.{rules, ℕ, ◌≡◌, refl, ◌∙◌, true, false, Result}
+use Rattle.std.proofs.Common.{ℕ, ◌≡◌, refl, ◌∙◌, true, false, Result}
 use Rattle.grain.specs.Bare.{bare_answer, bare_check, checked_number}
 use Rattle.grain.specs.declared.check.Verdict.{Verdict}
 use Rattle.grain.specs.declared.refusals.Refusal.{Refusal}

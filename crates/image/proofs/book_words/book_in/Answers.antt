@@ -20,4 +20,4 @@ returns-then-not-is_image c = c.none.ensures ∙ none_in c.args.w.now (sym c.is_
 pub returns : goal.returns
 returns c =
     let yes = sym c.is_image.ensures ∙ c.if-not-is_image.false in
-    rw (c.products_in.ensures, c.read_all.ensures) (held_in c.args.w.now yes)
+    rw (c.products_in.ensures, c.read_all.ensures, c.read.ensures) (held_in c.args.w.now yes)

@@ -10,18 +10,18 @@ use Rattle.ending.proofs.moves.GroupMoves.leading.Goals.{After-next_month}
 
 -- the next month after a month, over the products of the group
 
-near : (c : After-next_month) → Nearest (Among c.args.self.now.book.now (products_before c.args.self.now.group) (products_before (c.args.self.now.group + 1))) c.loop-next.month c.next_month.result
-near c = nearest_in c.args.self.now.book.now (products_before c.args.self.now.group) (products_before (c.args.self.now.group + 1)) c.loop-next.month _ c.products_of-products.ensures.within (rw c.products_of-products.ensures.part at c.next_month.ensures)
+near : (c : After-next_month) → Nearest (Among c.args.self.now.day.book.now (products_before c.args.self.now.group) (products_before (c.args.self.now.group + 1))) c.loop-next.month c.next_month.result
+near c = nearest_in c.args.self.now.day.book.now (products_before c.args.self.now.group) (products_before (c.args.self.now.group + 1)) c.loop-next.month _ c.products_of-products.ensures.within (rw c.products_of-products.ensures.part at c.next_month.ensures)
 
 ahead : (c : After-next_month)
     → let m = c.args.self.now in
-    Ahead (met m.book.now m.date c.args.condition) (products_before m.group) (products_before (m.group + 1)) c.next_month.result
+    Ahead (met m.day.book.now m.day.date c.args.condition) (products_before m.group) (products_before (m.group + 1)) c.next_month.result
 ahead c =
     let m = c.args.self.now in
-    ahead_next m.book.now m.date c.args.condition _ _ (before_next m.group m.numbered) (before_small m.group m.numbered) m.readable c.loop-next.month _ (near c) c.loop-next.invariant
+    ahead_next m.day.book.now m.day.date c.args.condition _ _ (before_next m.group m.numbered) (before_small m.group m.numbered) m.day.readable c.loop-next.month _ (near c) c.loop-next.invariant
 
 pub loop-next-init : goal.loop-next-init
-loop-next-init c = all_spot c.args.self.now.book.now c.args.self.now.date c.args.condition _ _
+loop-next-init c = all_spot c.args.self.now.day.book.now c.args.self.now.day.date c.args.condition _ _
 
 pub returns-in-Some-first_met : goal.returns-in-Some-first_met
 returns-in-Some-first_met c =
@@ -30,7 +30,7 @@ returns-in-Some-first_met c =
     let found = rw c.in-Some-first_met.is at c.first_met.ensures in
     let clear = rw c.in-Some.is at (ahead (goal.at.returns-in-Some-first_met c).After-next_month) in
     rw (← (stand_together m.group m.numbered))
-    (sym (this_leads m.book.now m.date a.condition _ _ (before_next m.group m.numbered) (before_small m.group m.numbered) m.readable c.in-Some.next c.in-Some-first_met.product clear found.0 found.1 found.3 found.2))
+    (sym (this_leads m.day.book.now m.day.date a.condition _ _ (before_next m.group m.numbered) (before_small m.group m.numbered) m.day.readable c.in-Some.next c.in-Some-first_met.product clear found.0 found.1 found.3 found.2))
 
 pub loop-next-smaller : goal.loop-next-smaller
 loop-next-smaller c =
@@ -51,4 +51,4 @@ returns c =
     let m = a.self.now in
     let clear = rw c.in_default.is at (ahead (goal.at.returns c).After-next_month) in
     rw (← (stand_together m.group m.numbered))
-    (sym (none_leads m.book.now m.date a.condition _ _ (before_next m.group m.numbered) (before_small m.group m.numbered) m.readable clear))
+    (sym (none_leads m.day.book.now m.day.date a.condition _ _ (before_next m.group m.numbered) (before_small m.group m.numbered) m.day.readable clear))

@@ -4,7 +4,7 @@ use Rattle.ending.proofs.Searched.{met, Seen}
 use Rattle.ending.proofs.moves.GroupMoves.leading.Given as goal
 
 abbrev pub invariant-loop-next : goal.invariant-loop-next
-invariant-loop-next l = Seen (met l.self.book.now l.self.date l.condition) (products_before l.self.group) (products_before (l.self.group + 1)) l.month
+invariant-loop-next l = Seen (met l.self.day.book.now l.self.day.date l.condition) (products_before l.self.group) (products_before (l.self.group + 1)) l.month
 
 abbrev pub decreases-loop-next : goal.decreases-loop-next
 decreases-loop-next l = 2 ^ 32 - l.month

@@ -1,18 +1,37 @@
+use Rattle.std.proofs.Common.{◌≡◌, refl, sym, ◌∙◌, Bool, true, false, eqb, cond}
+use Rattle.std.specs.Prelude.{not, Some, None, is_some}
 use borrow.Author.Tests.{lt-leb, eq-eqb, ne_eqb}
 use Rattle.grain.specs.Lists.{◌and◌}
 use Rattle.record.specs.Sound.{is_sound_sheet}
+use Rattle.sheets.specs.declared.sheet.Sheet.{Sheet}
 use Rattle.sheets.specs.Sheets.{contracts_of, sheet_in}
 use Rattle.sheets.proofs.Rest.{mapped}
 use Rattle.sheets.proofs.Soundness.{sound_by_tests}
 use Rattle.sheets.proofs.sheet.Sheet.is_sound.Goals as goal
+use Rattle.sheets.proofs.sheet.Sheet.is_sound.Goals.{Else-is_none}
 
-pub returns-then-self-eq0 : goal.returns-then-self-eq0
+-- a sheet is there by its count
+counted : {A : Type 0} (none : Bool) (a : A) → not (is_some (cond none None (Some a))) ≡ none
+counted true a = refl
+counted false a = refl
+
+by_count : (s : Sheet) → not (is_some (sheet_in s)) ≡ eqb s.len 0
+unfolding sheet_in
+by_count s = counted (eqb s.len 0) (contracts_of s)
+
+has_some : (c : Else-is_none) → c.args.self.now.len ≡ 0 → ⊥
+has_some c e =
+    let z : ◌≡◌ {A = Bool} true false = sym (eq-eqb _ _ e) ∙ sym (by_count c.args.self.now) ∙ sym c.is_none.ensures ∙ c.if-is_none.false in
+    cc
+
+pub returns-then-is_none : goal.returns-then-is_none
 unfolding sheet_in is_sound_sheet
-returns-then-self-eq0 c = rw (eq-eqb _ _ c.if-self-eq0.true)
+returns-then-is_none c = rw (sym (by_count c.args.self.now) ∙ sym c.is_none.ensures ∙ c.if-is_none.true)
 
 pub returns-then-self-gt-MAX_CONTRACTS : goal.returns-then-self-gt-MAX_CONTRACTS
 unfolding sheet_in contracts_of is_sound_sheet ◌and◌
-returns-then-self-gt-MAX_CONTRACTS c = simp (ne_eqb _ _ c.if-self-eq0.false, lt-leb _ _ c.if-self-gt-MAX_CONTRACTS.true)
+returns-then-self-gt-MAX_CONTRACTS c =
+    simp (ne_eqb _ _ (has_some (goal.at.returns-then-self-gt-MAX_CONTRACTS c).Else-is_none), lt-leb _ _ c.if-self-gt-MAX_CONTRACTS.true)
 
 pub returns : goal.returns
-returns c = rw (sound_by_tests _ c.args.self.now (search mapped) c.if-self-eq0.false c.if-self-gt-MAX_CONTRACTS.false) c.are_sound.ensures
+returns c = rw (sound_by_tests _ c.args.self.now (search mapped) (has_some (goal.at.returns c).Else-is_none) c.if-self-gt-MAX_CONTRACTS.false) c.are_sound.ensures
