@@ -8,17 +8,17 @@ use lib.ListN.{length, get_or, replicate, get_or-replicate}
 use borrow.Author.Tests.{ltb-true, eq-eqb}
 use Rattle.grain.specs.Lists.{◌and◌, every}
 use Rattle.grain.specs.Products.{product_count, is_product}
-use Rattle.grain.specs.Amounts.{expanded_of, is_fit_founding}
+use Rattle.grain.specs.Amounts.{is_fit_founding}
 use Rattle.record.specs.State.{group_table, group_count}
 use Rattle.record.specs.Founding.{Start, limit_of, are_fit, found_product, found_group, founded}
 use Rattle.record.specs.History.{products_of}
 use Rattle.record.proofs.GroupTable.{small_products}
-use Rattle.sheets.specs.Sheets.{empty_sheet, sheet_in}
-use Rattle.windows.specs.Windows.{kept_of, shown, empty_window}
+use Rattle.sheets.specs.Sheets.{sheet_in}
+use Rattle.windows.specs.Windows.{kept_of, shown}
 use Rattle.book.specs.declared.product.Product.{Product as Held}
 use Rattle.book.specs.declared.Book.{Book}
-use Rattle.grain.specs.declared.amounts.Limit.{Limit}
 use Rattle.book.specs.Book.{no_standing, no_items, view_product, view_group, view_common, view, view_held}
+use Rattle.book.specs.Founding.{founded_items}
 use Rattle.book.specs.Numbers.{all_products, all_groups}
 use Rattle.book.proofs.Everies.{every_concat}
 use Rattle.book.proofs.Numbers.{map_same}
@@ -30,20 +30,12 @@ unfolding are_fit group_table ◌and◌
 fit_is limits long =
     rw (eq-eqb (length limits) product_count long) (every_concat (λ p. is_fit_founding p (get_or limits p 0)) (λ (ps : List ℕ). ps) group_table)
 
--- the limits of a founded product
-abbrev pub limits_from : Start → ℕ → Limit
-limits_from s p = record { initial = limit_of s p; expanded = expanded_of p (limit_of s p) }
-
--- what a founded book holds of product p
-abbrev pub founded_items : Start → ℕ → Held
-founded_items s p = record { limit = limits_from s p; window = empty_window; today = empty_sheet; last = empty_sheet }
-
 -- a book of which each product's items are those
 abbrev pub founded_book : Start → List Held → Book
 founded_book s items =
     record { edition = s.edition; standings = replicate group_count no_standing; products = items; opened = None; is_open = false }
 
-module _ (s : Start) (items : List Held) (each : (p : ℕ) → p < product_count → get_or items p no_items ≡ founded_items s p) where
+module _ (s : Start) (items : List Held) (each : (p : ℕ) → p < product_count → get_or items p no_items ≡ founded_items p (limit_of s p)) where
   abbrev b : Book
   b = founded_book s items
 

@@ -19,3 +19,4 @@ pub mod ProductTests
 pub mod Items
 pub mod Defaults
 pub mod OpenDays
+pub mod LastSheets

@@ -6,24 +6,14 @@ use mathlib.Core.List.{List, [], ◌∷◌, map}
 use native.Mathlib.Nat.{le_of_suc-le-suc, not-suc-le-zero, add-zero, add-suc, zero-add, suc-add}
 use lib.ListN.{length, get_or, drop, length-map}
 use lib.Seq.{ext_get_or}
-use Rattle.std.specs.List.{list_any}
+use Rattle.std.specs.List.{list_any, range_with_len}
+use Rattle.std.proofs.lemmas.List.FromFn.{length-range_with_len, get_or-range_with_len, length-map-range_with_len, get_or-map-range_with_len}
 use Rattle.grain.specs.Lists.{◌and◌, every}
 use Rattle.grain.proofs.Tests.{and_left, and_right}
 use Rattle.grain.proofs.Scans.{every_fails, every_goes_on, every_end}
-use Rattle.book.specs.Numbers.{numbers_from}
 
--- ---- the numbers from k on
-numbers_long : (k n : ℕ) → length (numbers_from k n) ≡ n
-numbers_long k zero = refl
-numbers_long k (suc n) = ap suc (numbers_long (suc k) n)
-
-numbers_at : (k n i : ℕ) → i < n → get_or (numbers_from k n) i 0 ≡ k + i
-numbers_at k zero i l = absurd (not-suc-le-zero l)
-numbers_at k (suc n) zero l = sym (add-zero k)
-numbers_at k (suc n) (suc i) l = numbers_at (suc k) n i (le_of_suc-le-suc l) ∙ suc-add k i ∙ sym (add-suc k i)
-
-pub number_at : (n i : ℕ) → i < n → get_or (numbers_from 0 n) i 0 ≡ i
-number_at n i l = numbers_at 0 n i l ∙ zero-add i
+pub number_at : (n i : ℕ) → i < n → get_or (range_with_len 0 n) i 0 ≡ i
+number_at n i l = get_or-range_with_len 0 n i 0 l ∙ zero-add i
 
 every_at : (test : ℕ → Bool) (xs : List ℕ) (i : ℕ) → every test xs ≡ true → i < length xs → test (get_or xs i 0) ≡ true
 unfolding every
@@ -34,10 +24,10 @@ every_at test (x ∷ xs) (suc i) t l = every_at test xs i (and_right _ _ t) (le_
 -- ---- a loop over the numbers below n
 module _ (test : ℕ → Bool) (n p : ℕ) where
   abbrev numbers : List ℕ
-  numbers = numbers_from 0 n
+  numbers = range_with_len 0 n
 
   fits : p < n → p < length numbers
-  fits l = rw (numbers_long 0 n) l
+  fits l = rw (length-range_with_len 0 n) l
 
   pub one_fails : p < n → test p ≡ false → every test numbers ≡ every test (drop p numbers) → every test numbers ≡ false
   one_fails l e inv = inv ∙ every_fails test numbers p (fits l) (ap test (number_at n p l) ∙ e)
@@ -47,24 +37,19 @@ module _ (test : ℕ → Bool) (n p : ℕ) where
   one_goes_on l e inv = inv ∙ every_goes_on test numbers p (fits l) (ap test (number_at n p l) ∙ e)
 
   pub none_left : n ≤ p → every test numbers ≡ every test (drop p numbers) → every test numbers ≡ true
-  none_left l inv = let ends : length numbers ≤ p = rw (numbers_long 0 n) l in inv ∙ every_end test numbers p ends
+  none_left l inv = let ends : length numbers ≤ p = rw (length-range_with_len 0 n) l in inv ∙ every_end test numbers p ends
 
   pub each_passes : every test numbers ≡ true → p < n → test p ≡ true
   each_passes t l = ap test (sym (number_at n p l)) ∙ every_at test numbers p t (fits l)
 
 -- ---- a list that has f of each number below n
 module _ {A : Type 0} (d : A) (f : ℕ → A) where
-  mapped_at : (k n i : ℕ) → i < n → get_or (map f (numbers_from k n)) i d ≡ f (k + i)
-  mapped_at k zero i l = absurd (not-suc-le-zero l)
-  mapped_at k (suc n) zero l = ap f (sym (add-zero k))
-  mapped_at k (suc n) (suc i) l = mapped_at (suc k) n i (le_of_suc-le-suc l) ∙ ap f (suc-add k i ∙ sym (add-suc k i))
+  pub value_at : (n i : ℕ) → i < n → get_or (map f (range_with_len 0 n)) i d ≡ f i
+  value_at n i l = get_or-map-range_with_len f 0 n i i d l (zero-add i)
 
-  pub value_at : (n i : ℕ) → i < n → get_or (map f (numbers_from 0 n)) i d ≡ f i
-  value_at n i l = mapped_at 0 n i l ∙ ap f (zero-add i)
-
-  pub values_are : (n : ℕ) (xs : List A) → length xs ≡ n → ((i : ℕ) → i < n → get_or xs i d ≡ f i) → xs ≡ map f (numbers_from 0 n)
+  pub values_are : (n : ℕ) (xs : List A) → length xs ≡ n → ((i : ℕ) → i < n → get_or xs i d ≡ f i) → xs ≡ map f (range_with_len 0 n)
   values_are n xs long e =
-      ext_get_or d xs (map f (numbers_from 0 n)) (long ∙ sym (length-map (numbers_from 0 n) f ∙ numbers_long 0 n)) (λ i l. let fits : i < n = rw (← long) l in e i fits ∙ sym (value_at n i fits))
+      ext_get_or d xs (map f (range_with_len 0 n)) (long ∙ sym (length-map-range_with_len f 0 n)) (λ i l. let fits : i < n = rw (← long) l in e i fits ∙ sym (value_at n i fits))
 
 -- ---- functions that agree on what passes a test, on a list that passes it
 module _ {A B : Type 0} (t : A → Bool) (f h : A → B) (same : (x : A) → t x ≡ true → f x ≡ h x) where
@@ -83,7 +68,3 @@ module _ {A : Type 0} (t f h : A → Bool) (same : (x : A) → t x ≡ true → 
   unfolding every
   any_same [] e = refl
   any_same (x ∷ l) e = ap₂ ◌||◌ (same x (and_left _ _ e)) (any_same l (and_right _ _ e))
-
-pub map_twice : {A B C : Type 0} (f : A → B) (h : B → C) (l : List A) → map h (map f l) ≡ map (λ x. h (f x)) l
-map_twice f h [] = refl
-map_twice f h (x ∷ l) = ap (h (f x) ∷◌) (map_twice f h l)

@@ -22,8 +22,8 @@ fit_product p amount = go (is_product p) (leb (floor_of p) amount) (leb amount 2
 pub product_tests : (h : Held) (p : ℕ)
     → is_sound_product (view_held h p)
     ≡ ((is_fit_amount p h.limit.initial and eqb h.limit.expanded (expanded_of p h.limit.initial))
-    and (leb (length (shown h.window)) 45 and every (is_settlement p) (shown h.window))
-    and is_sound_sheet p (sheet_in h.today)
-    and is_sound_sheet p (sheet_in h.last))
-unfolding is_sound_product is_sound_window view_held
+    && (leb (length (shown h.window)) 45 and every (is_settlement p) (shown h.window))
+    && is_sound_sheet p (sheet_in h.today)
+    && is_sound_sheet p (sheet_in h.last))
+unfolding is_sound_product is_sound_window view_held ◌and◌
 product_tests h p = rw (fit_product p h.limit.initial)

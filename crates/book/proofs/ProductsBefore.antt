@@ -17,7 +17,8 @@ use Rattle.record.specs.Choices.{concat_map}
 use Rattle.record.specs.State.{group_table, group_count, group_of}
 use Rattle.record.specs.History.{products_of}
 use Rattle.record.proofs.GroupTable.{group_small, no_group_lem}
-use Rattle.book.specs.Numbers.{numbers_from, products_before}
+use Rattle.std.specs.List.{range_with_len}
+use Rattle.book.specs.Numbers.{products_before}
 
 pub before_next : (g : ℕ) → g < group_count → products_before g ≤ products_before (g + 1)
 unfolding group_table products_before
@@ -28,9 +29,9 @@ unfolding group_table products_before
 before_small g l = leb-true _ _ (below group_count (λ (g : ℕ). leb (products_before (g + 1)) product_count) refl g l)
 
 -- the products of a group stand together
-pub stand_together : (g : ℕ) → g < group_count → numbers_from (products_before g) (products_before (g + 1) - products_before g) ≡ products_of g
+pub stand_together : (g : ℕ) → g < group_count → range_with_len (products_before g) (products_before (g + 1) - products_before g) ≡ products_of g
 unfolding group_table products_before
-stand_together = each (λ (g : ℕ). numbers_from (products_before g) (products_before (g + 1) - products_before g) ≡ products_of g) group_count search
+stand_together = each (λ (g : ℕ). range_with_len (products_before g) (products_before (g + 1) - products_before g) ≡ products_of g) group_count search
 
 -- the products before number p are those of the groups before g
 abbrev is_before : ℕ → ℕ → Bool

@@ -82,15 +82,23 @@ sound_is b =
     (ap (is_some b.opened and◌) (flat b (λ q. is_some q.last)))
     (flat b (λ q. not (is_some q.last))))
 
+in_a_row : (x c d e f : Bool) → (x and (c and d) and e and f) ≡ (x && c && d && e && f)
+unfolding ◌and◌
+in_a_row true c d e f = refl
+in_a_row false c d e f = refl
+
 -- the same, with the tests of all places of an array as one
 pub sound_tests : (b : Book) → length b.products ≡ 8 → length b.standings ≡ 5
     → is_sound (view b)
     ≡ (is_edition b.edition
-    and is_sound_date b.opened b.is_open
-    and (list_all (is_mark_sound (has_marks b)) b.standings and every (λ p. is_sound_product (view_product b p)) all_products)
-    and (b.is_open || list_all has_no_today b.products)
-    and are_last_sound b.opened b.products)
+    && is_sound_date b.opened b.is_open
+    && list_all (is_mark_sound (has_marks b)) b.standings
+    && every (λ p. is_sound_product (view_product b p)) all_products
+    && (b.is_open || list_all has_no_today b.products)
+    && are_last_sound b.opened b.products)
+unfolding ◌and◌
 sound_tests b eight five =
     sound_is b
     ∙ rw
     (every_place (is_mark_sound (has_marks b)) 5 b.standings no_standing five, every_place has_no_today 8 b.products no_items eight, every_place has_last 8 b.products no_items eight, every_place has_no_last 8 b.products no_items eight)
+    (in_a_row (is_edition b.edition && is_sound_date b.opened b.is_open) _ _ _ _)

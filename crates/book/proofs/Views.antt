@@ -15,7 +15,8 @@ use Rattle.record.proofs.GroupTable.{group_small, own_group, small_products}
 use Rattle.book.specs.declared.Book.{Book}
 use Rattle.book.specs.Book.{view_product, view_group, view_groups, view_common, view, view_held}
 use Rattle.book.specs.Numbers.{all_groups}
-use Rattle.book.proofs.Numbers.{value_at, map_same, map_twice}
+use Rattle.book.proofs.Numbers.{value_at, map_same}
+use Rattle.std.proofs.lemmas.Simd.{map-map}
 
 -- a group of a book, by its number
 abbrev pub shown_group : Book → ℕ → Group
@@ -57,7 +58,7 @@ open_is b = refl
 pub products_view : (b z : Book) (f : Product → Product) (t : ℕ → Bool) → ((p : ℕ) → t p ≡ true → view_product z p ≡ f (view_product b p))
     → (ps : List ℕ) → every t ps ≡ true → map (view_product z) ps ≡ map f (map (view_product b) ps)
 products_view b z f t e ps passes =
-    map_same t (view_product z) (λ p. f (view_product b p)) e ps passes ∙ sym (map_twice (view_product b) f ps)
+    map_same t (view_product z) (λ p. f (view_product b p)) e ps passes ∙ sym (map-map f (view_product b) ps)
 
 -- a call that changes levels by group and products one by one
 pub group_view : (b z : Book) (f : Product → Product) (g : ℕ) → g < group_count
@@ -79,7 +80,7 @@ all_groups_lem : (b z : Book) (k : Group → Group) → ((g : ℕ) → g < group
 all_groups_lem b z k e =
     groups_are z
     ∙ same_groups (shown_group z) (λ g. k (shown_group b g)) e
-    ∙ sym (ap (map k) (groups_are b) ∙ map_twice (shown_group b) k all_groups)
+    ∙ sym (ap (map k) (groups_are b) ∙ map-map k (shown_group b) all_groups)
 
 -- the whole Record, from what is common and the groups
 pub next-view : (b z : Book) (c : Call) → view_common z ≡ next_common (view_common b) c

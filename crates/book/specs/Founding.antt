@@ -1,6 +1,7 @@
 -- What founding promises, whatever the edition and the eight limits.
-use Rattle.std.specs.Prelude.{◌≡◌, false, replicate, Some, None, Result, Ok, Err}
+use Rattle.std.specs.Prelude.{ℕ, ◌≡◌, false, replicate, Some, None, Result, Ok, Err}
 use Rattle.grain.specs.Products.{product_count}
+use Rattle.grain.specs.Amounts.{expanded_of}
 use Rattle.grain.specs.Refusals.{number_of}
 use Rattle.grain.specs.declared.refusals.Refusal.{Refusal}
 use Rattle.record.specs.State.{group_count}
@@ -13,6 +14,11 @@ use Rattle.book.specs.Book.{no_limit, no_standing, view}
 
 abbrev pub empty_items : Held
 empty_items = record { limit = no_limit; window = empty_window; today = empty_sheet; last = empty_sheet }
+
+-- a product with its initial limit, and nothing else
+abbrev pub founded_items : ℕ → ℕ → Held
+founded_items p initial =
+    record { limit = record { initial = initial; expanded = expanded_of p initial }; window = empty_window; today = empty_sheet; last = empty_sheet }
 
 -- a book of no edition and so unsound: every call on it is refused with 1
 unfoldable pub no_book : Book

@@ -1,19 +1,15 @@
 -- The products and the groups by their numbers.
-use Rattle.std.specs.Prelude.{ℕ, zero, suc, List, [], ◌∷◌, length, take}
+use Rattle.std.specs.Prelude.{ℕ, List, length, take}
+use Rattle.std.specs.List.{range_with_len}
 use Rattle.grain.specs.Products.{product_count}
 use Rattle.record.specs.Choices.{concat_map}
 use Rattle.record.specs.State.{group_table, group_count}
 
--- n numbers from k on
-abbrev pub numbers_from : ℕ → ℕ → List ℕ
-numbers_from k zero = []
-numbers_from k (suc n) = k ∷ numbers_from (suc k) n
-
 abbrev pub all_products : List ℕ
-all_products = numbers_from 0 product_count
+all_products = range_with_len 0 product_count
 
 abbrev pub all_groups : List ℕ
-all_groups = numbers_from 0 group_count
+all_groups = range_with_len 0 group_count
 
 -- how many products the groups before g have: the products of a group stand together, so that its own are those from this number on
 unfoldable pub products_before : ℕ → ℕ

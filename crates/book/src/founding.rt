@@ -2,11 +2,12 @@
 ghost use Rattle.std.specs.Prelude.{◌≡◌};
 ghost use Rattle.record.specs.Founding.{are_fit, founded};
 ghost use Rattle.book.specs.Book.{view};
-ghost use Rattle.book.specs.Founding.{no_book, Founds};
+ghost use Rattle.book.specs.Founding.{founded_items, no_book, Founds};
 
 use crate::editions::is_edition;
 use crate::{Book, Product};
 use grain::{Limit, PRODUCT_COUNT, Refusal};
+use std::array;
 
 fn are_fit(limits: &[u32; PRODUCT_COUNT]) -> bool
     ensures { result ≡ are_fit limits.now }
@@ -26,22 +27,23 @@ impl Book {
     }
 }
 
+// A product's initial limit with its E, and nothing else.
+fn founded(product: u32, initial: u32) -> Product
+    ensures { result ≡ founded_items product initial }
+{
+    Product {
+        limit: Limit::of(product, initial),
+        ..Product::none()
+    }
+}
+
 // All groups at the initial level, with no day and no sheets.
 fn fresh(edition: u32, limits: [u32; PRODUCT_COUNT]) -> Book
     ensures { view result ≡ founded (record { edition = edition; limits = limits }) }
 {
-    let empty = Product::none();
-    let mut products = [empty; PRODUCT_COUNT];
-    for (p, initial) in limits.iter().enumerate() {
-        let limit = Limit {
-            initial: *initial,
-            expanded: grain::expanded(p as u32, *initial),
-        };
-        products[p] = Product { limit, ..empty };
-    }
     Book {
         edition,
-        products,
+        products: array::from_fn(|p| founded(p as u32, limits[p])),
         ..Book::none()
     }
 }

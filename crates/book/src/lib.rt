@@ -21,6 +21,7 @@ pub use product::Product;
 pub use soundness::is_true_day;
 
 // A group's level, and the rule's mark: held on the ended day before, with a move of exactly E, and no new limits since.
+// Two flags: an image from C can hold any two, which soundness then judges.
 #[derive(Clone, Copy, Debug, Default, PartialEq, Eq)]
 pub struct Standing {
     pub expanded: bool,
@@ -35,6 +36,6 @@ pub struct Book {
     pub products: [Product; PRODUCT_COUNT],
     // The last opened day. An image from C can hold any, which soundness then judges.
     pub opened: Option<Day>,
-    // A day is open.
+    // It is open. A flag of its own, as the Record has it: the day stays the last opened one when it has ended.
     pub is_open: bool,
 }

@@ -9,6 +9,7 @@ use grain::PRODUCT_COUNT;
 
 impl Book {
     // I or E, by the level of the product's group; 0 where there is no such product.
+    #[tactic(auto, using(record::proofs::GroupTable::group_small))]
     pub fn limit_of(&self, p: usize) -> u32
         ensures { result ≡ todays_limit (group_at (view self.now) (group_of p)) p }
     {

@@ -48,18 +48,13 @@ impl Product {
         Product::default()
     }
 
+    #[tactic(auto, using(crate::proofs::ProductTests::product_tests))]
     pub fn is_sound(&self, product: u32) -> bool
         ensures { result ≡ is_sound_product (view_held self.now product) }
     {
-        if !is_sound_limit(product, self.limit) {
-            return false;
-        }
-        if !is_sound_window(product, &self.window) {
-            return false;
-        }
-        if !self.today.is_sound(product) {
-            return false;
-        }
-        self.last.is_sound(product)
+        is_sound_limit(product, self.limit)
+            && is_sound_window(product, &self.window)
+            && self.today.is_sound(product)
+            && self.last.is_sound(product)
     }
 }

@@ -91,24 +91,15 @@ impl Book {
         self.products.iter().all(|q| !q.today.is_none())
     }
 
+    #[tactic(auto, using(crate::proofs::Shown::sound_tests))]
     pub fn is_sound(&self) -> bool
         ensures { result ≡ is_sound (view self.now) }
     {
-        if !is_edition(self.edition) {
-            return false;
-        }
-        if !is_sound_date(self.opened, self.is_open) {
-            return false;
-        }
-        if !are_marks_sound(has_marks(self.edition), &self.standings) {
-            return false;
-        }
-        if !are_products_sound(self) {
-            return false;
-        }
-        if !is_phase_sound(self.is_open, &self.products) {
-            return false;
-        }
-        are_last_sound(self.opened, &self.products)
+        is_edition(self.edition)
+            && is_sound_date(self.opened, self.is_open)
+            && are_marks_sound(has_marks(self.edition), &self.standings)
+            && are_products_sound(self)
+            && is_phase_sound(self.is_open, &self.products)
+            && are_last_sound(self.opened, &self.products)
     }
 }

@@ -23,7 +23,7 @@ use Rattle.book.specs.declared.Book.{Book}
 use Rattle.book.specs.Book.{last_in, view, view_held}
 use Rattle.book.specs.Phase.{phase_refusal}
 use Rattle.book.proofs.Phases.{refused_early, decided_late}
-use Rattle.book.proofs.SheetsIn.{sheet_contracts}
+use Rattle.book.proofs.LastSheets.{last_is}
 use Rattle.book.proofs.SoundFacts.{day_in, last_fits}
 use Rattle.book.proofs.Views.{product_is}
 use Rattle.checking.specs.declared.terms.Terms.{Terms as Declared}
@@ -49,17 +49,10 @@ module _ (b : Book) (p size : ℕ) where
   grants t e is = record { refusal = sym e; terms = λ u ok. let same : t ≡ u = cc in rw (← same) is }
 
   module _ (sound : is_sound (view b) ≡ true) where
-    last_is : p < 8 → sheet_or (product_in (group_at (view b) (group_of p)) p).last ≡ entries_of (last_in b p)
-    unfolding view_held
-    last_is h =
-        ap (λ (q : Product). sheet_or q.last) (product_is b p h)
-        ∙ sheet_contracts (last_in b p)
-        ∙ counted (last_in b p) (last_fits b sound p h)
-
     pub terms_are : (tick limit : ℕ) (date : TradeDate) → p < 8 → tick ≡ tick_of p size → limit ≡ todays_limit (group_at (view b) (group_of p)) p
         → (d : Day) → b.opened ≡ Some d → date ≡ trade_date d
         → ◌≡◌ {A = Terms} (record { tick = tick; limit = limit; date = date; last = entries_of (last_in b p) }) (terms_in (view b) p size)
-    terms_are tick limit date h tick_is limit_is d opened date_is = rw (tick_is, limit_is, date_is, day_in b d opened, last_is h)
+    terms_are tick limit date h tick_is limit_is d opened date_is = rw (tick_is, limit_is, date_is, day_in b d opened, last_is b sound p h)
 
   -- refused by the first two tests
   pub phase_refuses : (n : ℕ) → phase_refusal true (view b) ≡ Some n → terms_refusal (view b) p size ≡ Some n

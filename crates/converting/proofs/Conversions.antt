@@ -26,7 +26,7 @@ unfolding view_group
 expanded_shown b g = level_is (standing_in b g).expanded
 
 -- a group of the view is expanded where a standing is
-pub expanded_is : (b : Book) → length b.standings ≡ group_count → has_expanded (view b).groups ≡ list_any (λ (s : Standing). s.expanded) b.standings
+expanded_is : (b : Book) → length b.standings ≡ group_count → has_expanded (view b).groups ≡ list_any (λ (s : Standing). s.expanded) b.standings
 unfolding view
 expanded_is b long =
     ap has_expanded (groups_are b)
@@ -39,15 +39,19 @@ abbrev edition_tests : Book → List Test
 edition_tests b = when (eqb (view b).common.edition 2014 && has_expanded (view b).groups) group_expanded ∷ []
 
 -- refused by the first two
-pub phase_refuses : (b : Book) (n : ℕ) → phase_refusal false (view b) ≡ Some n → conversion_refusal (view b) ≡ Some n
+pub phase_refuses : (b : Book) (n : ℕ) → Some n ≡ phase_refusal false (view b) → Some n ≡ conversion_refusal (view b)
 unfolding conversion_tests
-phase_refuses b n e = refused_early (view b) _ n (edition_tests b) e
+phase_refuses b n e = sym (refused_early (view b) _ n (edition_tests b) (sym e))
 
 -- past them, the test of the edition decides
-pub edition_decides : (b : Book) → phase_refusal false (view b) ≡ None
+pub edition_decides : (b : Book) → None ≡ phase_refusal false (view b)
     → conversion_refusal (view b) ≡ cond (eqb b.edition 2014 && has_expanded (view b).groups) (Some group_expanded) None
 unfolding conversion_tests view view_common
-edition_decides b e = decided_late (view b) _ (edition_tests b) e
+edition_decides b e = decided_late (view b) _ (edition_tests b) (sym e)
+
+pub levels_decide : (b : Book) → length b.standings ≡ group_count → None ≡ phase_refusal false (view b)
+    → conversion_refusal (view b) ≡ cond (eqb b.edition 2014 && list_any (λ (s : Standing). s.expanded) b.standings) (Some group_expanded) None
+levels_decide b long e = edition_decides b e ∙ ap (λ x. cond (eqb b.edition 2014 && x) (Some group_expanded) None) (expanded_is b long)
 
 -- ---- the book after it
 pub converted_view : (b : Book) → view (with_2023 b) ≡ converted (view b)

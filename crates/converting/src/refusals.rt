@@ -14,6 +14,7 @@ fn has_expanded(standings: &[Standing]) -> bool
     standings.iter().any(|s| s.expanded)
 }
 
+#[tactic(auto, using(crate::proofs::Conversions::phase_refuses, crate::proofs::Conversions::levels_decide))]
 pub(crate) fn refusal_of(b: &Book) -> Result<(), Refusal>
     ensures { refusal_in result ≡ conversion_refusal (view b.now) }
 {

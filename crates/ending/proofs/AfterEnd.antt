@@ -23,7 +23,8 @@ use Rattle.book.specs.declared.Book.{Book}
 use Rattle.book.specs.Book.{standing_in, level_of, view_product, view_group, view_groups, view_common, view}
 use Rattle.book.specs.Numbers.{all_groups}
 use Rattle.book.proofs.Shown.{has_marks}
-use Rattle.book.proofs.Numbers.{value_at, map_twice}
+use Rattle.book.proofs.Numbers.{value_at}
+use Rattle.std.proofs.lemmas.Simd.{map-map}
 use Rattle.book.proofs.Views.{shown_group, groups_are, same_groups, products_view, next-view}
 use Rattle.ending.specs.Lead.{moves_of}
 use Rattle.ending.specs.Ends.{quiet, event_in, standing_of_end}
@@ -64,7 +65,7 @@ event_is b g ps = ap (event_of (conditions_of b.edition) (level_of (standing_in 
 events_are : (b : Book) → map (group_event (view_common b)) (view_groups b 0 group_table) ≡ map (event_today b) all_groups
 events_are b =
     ap (map (group_event (view_common b))) (groups_are b)
-    ∙ map_twice (shown_group b) (group_event (view_common b)) all_groups
+    ∙ map-map (group_event (view_common b)) (shown_group b) all_groups
     ∙ same_groups (λ g. group_event (view_common b) (shown_group b g)) (event_today b) (λ g l. event_is b g (products_of g))
 
 -- what an end makes of a group

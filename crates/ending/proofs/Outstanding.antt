@@ -44,9 +44,9 @@ outstanding_is b =
     one-not are_in is_outstanding group_outstanding (view_groups b 0 group_table) ∙ ap not (flat b is_in)
 
 -- refused by the first two tests
-pub phase_refuses : (b : Book) (n : ℕ) → phase_refusal true (view b) ≡ Some n → refusal (view b) end ≡ Some n
+pub phase_refuses : (b : Book) (n : ℕ) → Some n ≡ phase_refusal true (view b) → Some n ≡ refusal (view b) end
 unfolding refusal tests
-phase_refuses b n e = refused_early (view b) _ n (when (list_any is_outstanding (view b).groups) sheet_outstanding ∷ []) e
+phase_refuses b n e = sym (refused_early (view b) _ n (when (list_any is_outstanding (view b).groups) sheet_outstanding ∷ []) (sym e))
 
 -- past them, whether all sheets are in decides
 pub sheets_decide : (b : Book) → None ≡ phase_refusal true (view b) → refusal (view b) end ≡ cond (not (are_all_in b)) (Some sheet_outstanding) None

@@ -23,7 +23,7 @@ use Rattle.record.specs.End.{leading}
 use Rattle.sheets.specs.Sheets.{entries_of}
 use Rattle.book.specs.declared.Book.{Book}
 use Rattle.book.specs.Book.{no_items, items_in, limit_in, today_in, last_in, view_product, view_held}
-use Rattle.book.specs.Numbers.{numbers_from}
+use Rattle.std.specs.List.{range_with_len}
 use Rattle.book.proofs.SheetsIn.{sheet_contracts}
 use Rattle.ending.specs.declared.lead.condition.Condition.{Condition}
 use Rattle.ending.specs.Search.{count_earlier, change_meets, meets_on, suffice_in, next_among, is_met_by, is_met}
@@ -46,7 +46,7 @@ lt_or_ge a b = go (ltb a b) refl
 -- the candidates of products that stand together
 module _ (f : List Move → List Move) (moves : Product → List Move) (q : ℕ → Product) (v : Move) where
   abbrev together : ℕ → ℕ → List Move
-  together lo k = concat_map f (map moves (map q (numbers_from lo k)))
+  together lo k = concat_map f (map moves (map q (range_with_len lo k)))
 
   abbrev of : ℕ → List Move
   of p = f (moves (q p))
@@ -54,18 +54,18 @@ module _ (f : List Move → List Move) (moves : Product → List Move) (q : ℕ 
   one_of : (P : Type 0) (lo k : ℕ) → Member v (together lo k) → ((p : ℕ) → lo ≤ p → p < lo + k → Member v (of p) → P) → P
   one_of P lo zero d found = absurd d
   one_of P lo (suc k) d found =
-      member_either P v (of lo) (together (suc lo) k) d
+      member_either P v (of lo) (together (lo + 1) k) d
       (λ j. found lo (omega arith) (omega arith) j)
-      (λ j. one_of P (suc lo) k j (λ p a b. found p (omega arith) (omega arith)))
+      (λ j. one_of P (lo + 1) k j (λ p a b. found p (omega arith) (omega arith)))
 
   among : (lo k p : ℕ) → lo ≤ p → p < lo + k → Member v (of p) → Member v (together lo k)
   among lo zero p a b d = absurd (omega arith)
-  among lo (suc k) p a b d = go (among (suc lo) k p)
+  among lo (suc k) p a b d = go (λ above. among (lo + 1) k p (omega arith))
     where
-      go : (suc lo ≤ p → p < suc lo + k → Member v (of p) → Member v (together (suc lo) k)) → Member v (together lo (suc k))
+      go : (lo < p → p < lo + 1 + k → Member v (of p) → Member v (together (lo + 1) k)) → Member v (together lo (suc k))
       go later =
-          ⊎_elim (λ same. member_left v (of lo) (together (suc lo) k) (subst (λ (x : ℕ). Member v (of x)) (sym same) d))
-          (λ above. member_right v (of lo) (together (suc lo) k) (later above (omega arith) d))
+          ⊎_elim (λ same. member_left v (of lo) (together (lo + 1) k) (subst (λ (x : ℕ). Member v (of x)) (sym same) d))
+          (λ above. member_right v (of lo) (together (lo + 1) k) (later above (omega arith) d))
           (eq-or-lt_of_le a)
 
 changed_listed : (g : Move → Bool) (p i e m : ℕ) (is_first s : Bool) (x y : Option ℕ)
@@ -123,7 +123,7 @@ module _ (b : Book) (date : TradeDate) (condition : Condition) where
     g = meets condition
 
     abbrev group : List ℕ
-    group = numbers_from lo (hi - lo)
+    group = range_with_len lo (hi - lo)
 
     -- the moves of product p
     abbrev moves_by : ℕ → List Move

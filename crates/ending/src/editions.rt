@@ -1,4 +1,4 @@
-// What each edition of the rule asks of a move; whether it has marks is the book's.
+// What each edition of the rule asks of a move; whether it has marks is the book's. An edition is a number, as in a book.
 ghost use Rattle.std.specs.Prelude.{◌≡◌};
 ghost use Rattle.ending.specs.Lead.{trigger_of, holding_of};
 

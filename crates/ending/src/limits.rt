@@ -13,8 +13,5 @@ pub(crate) fn limit_after(event: Event, product: u32, limit: Limit) -> Limit
     if !matches!(event, Event::Raised(_)) {
         return limit;
     }
-    Limit {
-        initial: limit.expanded,
-        expanded: grain::expanded(product, limit.expanded),
-    }
+    Limit::of(product, limit.expanded)
 }

@@ -9,6 +9,7 @@ use book::{Book, OpenDay};
 use grain::Refusal;
 
 // The day that ends.
+#[tactic(auto, using(crate::proofs::Outstanding::phase_refuses, crate::proofs::Outstanding::sheets_decide))]
 pub(crate) fn ended_day(b: &Book) -> Result<OpenDay, Refusal>
     ensures refusal { refusal_in result ≡ refusal (view b.now) end }
     ensures day { ForOk result (λ on. b.now.opened ≡ Some on.day) }

@@ -1,9 +1,11 @@
 -- What the tests over the contracts look at, by the book: the open day, its spot months and the last ended sheet.
 use Prim.Native.Nat.{ℕ, ◌<◌, ◌≤◌}
-use mathlib.Core.Path.{◌≡◌, ◌∙◌, ap}
-use mathlib.Core.Bool.{Bool, true, not}
+use mathlib.Core.Path.{◌≡◌, refl, ◌∙◌, ap}
+use mathlib.Core.Bool.{Bool, true, not, ◌&&◌}
+use lib.Dec.{leb}
 use mathlib.Core.List.{List, [], ◌∷◌}
-use Rattle.grain.specs.Lists.{every}
+use Rattle.grain.specs.Lists.{◌and◌, every, is_ascending}
+use Rattle.grain.specs.Products.{is_traded}
 use Rattle.grain.specs.Prices.{is_settlement}
 use Rattle.grain.specs.Spot.{is_spot}
 use Rattle.grain.specs.Refusals.{bad_price}
@@ -18,10 +20,15 @@ use Rattle.sheets.specs.Sheets.{entries_of, months_of, settlements_of}
 use Rattle.sheets.proofs.Rest.{counted}
 use Rattle.book.specs.declared.Book.{Book}
 use Rattle.book.specs.Book.{last_in, view, view_held}
-use Rattle.book.proofs.SheetsIn.{sheet_contracts}
+use Rattle.book.proofs.LastSheets.{last_is}
 use Rattle.book.proofs.SoundFacts.{last_fits}
 use Rattle.book.proofs.Views.{product_is}
 use Rattle.filing.specs.Files.{contract_tests}
+
+-- the tests of the months, one after another
+pub bad_month_by : (month p : ℕ) (ms : List ℕ) → has_bad_month month p ms ≡ not (is_ascending ms && every (is_traded p) ms && every (leb month) ms)
+unfolding has_bad_month ◌and◌
+bad_month_by month p ms = refl
 
 -- the refusal, by what the four tests look at
 abbrev pub by : Bool → Bool → Bool → Bool → Option ℕ
@@ -33,12 +40,6 @@ abbrev by_day : Book → ℕ → List Contract → Day → List Contract → Opt
 by_day b p s d last =
     by (has_bad_month (month_of d) p (months_of s)) (has_bad_settlement p (settlements_of s)) (lacks_contract (is_spot_on d) last s)
     (is_beyond (is_spot_on d) (todays_limit (group_at (view b) (group_of p)) p) last s)
-
-last_is : (b : Book) (p : ℕ) → p < 8 → (last_in b p).len ≤ 16
-    → sheet_or (product_in (group_at (view b) (group_of p)) p).last ≡ entries_of (last_in b p)
-unfolding view_held
-last_is b p l fits =
-    ap (λ (q : Product). sheet_or q.last) (product_is b p l) ∙ sheet_contracts (last_in b p) ∙ counted (last_in b p) fits
 
 module _ (b : Book) (p : ℕ) (s : List Contract) where
   abbrev limit : ℕ
@@ -52,4 +53,4 @@ module _ (b : Book) (p : ℕ) (s : List Contract) where
       ≡ by (has_bad_month (trade_date today).month p (months_of s)) (not (every (is_settlement p) (settlements_of s)))
       (lacks_contract (is_spot (trade_date today)) (entries_of (last_in b p)) s) (is_beyond (is_spot (trade_date today)) limit (entries_of (last_in b p)) s)
   unfolding has_bad_settlement
-  late_is l sound = ap (by_day b p s today) (last_is b p l (last_fits b sound p l))
+  late_is l sound = ap (by_day b p s today) (last_is b sound p l)

@@ -36,16 +36,11 @@ pub(crate) fn early_refusal(
     Ok(())
 }
 
+#[tactic(auto, using(crate::proofs::Contracts::bad_month_by))]
 fn has_bad_month(date: TradeDate, product: u32, s: &Sheet) -> bool
     ensures { result ≡ has_bad_month date.month product (months_of (entries_of s.now)) }
 {
-    if !s.is_ascending() {
-        return true;
-    }
-    if !s.is_traded(product) {
-        return true;
-    }
-    !s.starts_from(date.month)
+    !(s.is_ascending() && s.is_traded(product) && s.starts_from(date.month))
 }
 
 // Those that look at the contracts.

@@ -102,21 +102,18 @@ module _ {A : Type 0} (gives : A → Answer) (ws : List ℕ) (c : Call) (z : Boo
   written_image (Err e) n now r (n-is, now-is) = rw (n-is, now-is) (refused_image ws c (number_of e) z r)
 
 -- a founding
-accepted_founding : (ws : List ℕ) (s : Start) (b : Book) → Founds s (Ok b) → (now : List ℕ) → Put b no_renewed no_events now
-    → FoundsImage ws s 0 now
-accepted_founding ws s b founds now p =
-    record {
-      number = rw founds.0;
-      state = λ e. ap view (p.book (rw founds.1 (founded_sound s founds.0))) ∙ founds.1;
-      renewed = λ e. p.renewed;
-      events = λ e. p.events;
-      unchanged = λ n e. cc (founds.0, e);
-    }
-
 module _ (ws : List ℕ) (s : Start) (post : MutBor (List ℕ) → Bor Book → MutBor (List ℕ) → Type 0)
     (puts : (lent : MutBor (List ℕ)) (b : Bor Book) (left : MutBor (List ℕ)) → post lent b left → Put b.now no_renewed no_events left.now) where
   pub written_founding : (result : Result Book Refusal) (n : ℕ) (now : List ℕ) → Founds s result → Writes post result ws n now → FoundsImage ws s n now
-  written_founding (Ok b) n now f (n-is, p) = rw n-is (accepted_founding ws s b f now (rw (p.shows, p.leaves) at (puts p.lent p.shown p.left p.met)))
+  written_founding (Ok b) n now f (n-is, p) =
+      let put : Put b no_renewed no_events now = rw (p.shows, p.leaves) at (puts p.lent p.shown p.left p.met) in
+      record {
+        number = rw f.0 n-is;
+        state = λ e. ap view (put.book (rw f.1 (founded_sound s f.0))) ∙ f.1;
+        renewed = λ e. put.renewed;
+        events = λ e. put.events;
+        unchanged = λ m e. cc (f.0, e);
+      }
   written_founding (Err r) n now f (n-is, now-is) =
       record {
         number = rw f n-is;

@@ -7,10 +7,10 @@ ghost use Rattle.gateway.specs.Written.{Writes};
 
 use grain::Refusal;
 use image::{WORDS, book_in, put_ended, put_filed, put_founded, put_opened};
+use record::Day;
 
-// Puts what an accepted call answers in the words, and gives the call's number: 0, or that of its refusal, which leaves the words.
-// The words and the answer are lent to `put`: a proof does not know what a closure that captured the words leaves where it is not called, and
-// nothing of a closure that takes an array by value.
+// The number of a call: 0, where what it answers is put in the words, or that of its refusal. `put` is lent both: a proof does not know what a
+// closure leaves of words that it captures, where it is not called, nor what one does that takes an array by value.
 fn write<A: Drop, F: FnOnce(&mut [u32; WORDS], &A)>(
     words: &mut [u32; WORDS],
     answer: Result<A, Refusal>,
@@ -68,7 +68,13 @@ pub extern "C" fn botskhela_open(
     ensures { RespondsImage words.old (opening (day_on year month day left)) result words.new }
 {
     let mut b = book_in(words);
-    let renewed = opening::opening(&mut b, year, month, day, left);
+    let opened = Day {
+        year,
+        month,
+        day,
+        left,
+    };
+    let renewed = opening::opening(&mut b, opened);
     write(words, renewed, |w, renewed| put_opened(w, &b, *renewed))
 }
 

@@ -29,6 +29,18 @@ fn whole_steps(x: u64, parts: u64, step: u64) -> u64
     step * (x / (parts * step))
 }
 
+impl Limit {
+    // I with its E.
+    pub fn of(product: u32, initial: u32) -> Limit
+        ensures { result ≡ record { initial = initial; expanded = expanded_of product initial } }
+    {
+        Limit {
+            initial,
+            expanded: expanded(product, initial),
+        }
+    }
+}
+
 // E of I; 0 where there is no such product.
 pub fn expanded(product: u32, initial: u32) -> u32
     ensures { result ≡ expanded_of product initial }

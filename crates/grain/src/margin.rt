@@ -42,10 +42,7 @@ pub fn season_limits(product: u32, settlements: &[u32]) -> Result<Limit, Refusal
         return Err(Refusal::BadPrice);
     }
     let initial = season_initial(product, sum_of(settlements));
-    Ok(Limit {
-        initial,
-        expanded: expanded(product, initial),
-    })
+    Ok(Limit::of(product, initial))
 }
 
 // What the calendar tells of a date.

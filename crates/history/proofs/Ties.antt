@@ -6,7 +6,7 @@ use Rattle.grain.specs.declared.refusals.Refusal.{Refusal}
 use Rattle.record.specs.declared.Event.{Event}
 use Rattle.book.specs.declared.Book.{Book}
 use Rattle.book.specs.Founding.{Founds}
-use Rattle.opening.specs.Opens.{day_on, Opens}
+use Rattle.opening.specs.Opens.{Opens}
 use Rattle.filing.specs.Files.{Files}
 use Rattle.ending.specs.Ends.{Ends}
 use Rattle.checking.specs.Checks.{Checks}
@@ -24,7 +24,7 @@ pub found_asks : (κs : contract.Lifetimes.Lfts 0) (a : _) → found.Pre κs a
 found_asks κs a = tt
 
 pub opening_says : (κs : contract.Lifetimes.Lfts 1) (a : _) (r : Result (List Bool) Refusal) (s : _)
-    → opening.Post κs a r s → Opens a.0.now (day_on a.1.0 a.1.1.0 a.1.1.1.0 a.1.1.1.1.0) r s.0.now
+    → opening.Post κs a r s → Opens a.0.now a.1.0 r s.0.now
 opening_says κs a r s q = q
 
 pub opening_asks : (κs : contract.Lifetimes.Lfts 1) (a : _) → opening.Pre κs a

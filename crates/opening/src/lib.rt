@@ -5,7 +5,7 @@ ghost use Rattle.std.specs.Prelude.{◌≡◌, true};
 ghost use Rattle.record.specs.Record.{answer, next as next_state, opening as call, opened as answered};
 ghost use Rattle.record.specs.Sound.{is_sound};
 ghost use Rattle.book.specs.Book.{view};
-ghost use Rattle.opening.specs.Opens.{day_on, Opens};
+ghost use Rattle.opening.specs.Opens.{Opens};
 
 use book::Book;
 use grain::{PRODUCT_COUNT, Refusal};
@@ -22,23 +22,11 @@ use renewal::open_products;
 use seasons::SeasonChange;
 use standings::standings_on;
 
-// For each product, whether it got new limits. Four numbers, as a caller in C has them; left: the business days of that month after this day.
-pub fn opening(
-    b: &mut Book,
-    year: u32,
-    month: u32,
-    day: u32,
-    left: u32,
-) -> Result<[bool; PRODUCT_COUNT], Refusal>
-    ensures { Opens b.old (day_on year month day left) result b.new }
+// For each product, whether it got new limits.
+pub fn opening(b: &mut Book, day: Day) -> Result<[bool; PRODUCT_COUNT], Refusal>
+    ensures { Opens b.old day result b.new }
 {
-    let d = Day {
-        year,
-        month,
-        day,
-        left,
-    };
-    let dates = Dates::of(b, d)?;
+    let dates = Dates::of(b, day)?;
     Ok(accept(b, &dates))
 }
 

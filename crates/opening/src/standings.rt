@@ -20,6 +20,7 @@ fn standing_on(is_renewed: bool, standing: Standing) -> Standing
 }
 
 // `renewed` says of each product whether it gets new limits: one that does brings its whole group to the initial level.
+#[tactic(auto, using(record::proofs::GroupTable::group_small))]
 pub(crate) fn standings_on(
     renewed: &[bool; PRODUCT_COUNT],
     standings: [Standing; GROUP_COUNT],

@@ -28,11 +28,7 @@ impl State {
                 self.book = Some(book::found(f.edition, f.limits)?);
                 Ok(Answer::Founded)
             }
-            Call::Open(d) => {
-                let b = self.book_mut()?;
-                let renewed = opening::opening(b, d.year, d.month, d.day, d.left)?;
-                Ok(Answer::Opened(renewed))
-            }
+            Call::Open(day) => Ok(Answer::Opened(opening::opening(self.book_mut()?, day)?)),
             Call::Sheet(f) => {
                 filing::sheet(self.book_mut()?, f.product, &f.months, &f.settlements)?;
                 Ok(Answer::Filed)

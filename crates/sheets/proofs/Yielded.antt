@@ -22,7 +22,3 @@ pairs_are k zero ms ss = refl
 pairs_are k (suc n) [] ss = refl
 pairs_are k (suc n) (m ∷ ms) [] = refl
 pairs_are k (suc n) (m ∷ ms) (s ∷ ss) = ap (record { month = m; settlement = s } ∷◌) (pairs_are (k + 1) n ms ss)
-
-pub map_twice : {A B C : Type 0} (f : A → B) (h : B → C) (l : List A) → map h (map f l) ≡ map (λ x. h (f x)) l
-map_twice f h [] = refl
-map_twice f h (x ∷ l) = ap (h (f x) ∷◌) (map_twice f h l)

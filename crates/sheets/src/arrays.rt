@@ -25,6 +25,7 @@ impl Sheet {
     {
         let n = months.len().min(settlements.len()).min(MAX_CONTRACTS);
         let mut all = [Contract::default(); MAX_CONTRACTS];
+        // By index: a proof learns nothing of what is written through `iter_mut().zip`.
         for (i, (month, settlement)) in months
             .iter()
             .zip(settlements)

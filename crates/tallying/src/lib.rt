@@ -8,6 +8,7 @@ use book::Book;
 use grain::{Refusal, Verdict};
 use tally::Tally;
 
+// Numbers, as a check takes them.
 pub fn tallied_check(
     b: &Book,
     tally: &mut Tally,

@@ -1,18 +1,16 @@
-use Rattle.std.proofs.Common.{rules, ◌≡◌, refl, sym, ap, ◌∙◌, Err}
+use Rattle.std.proofs.Common.{rules, refl, sym, ap, ◌∙◌}
 use Rattle.record.specs.Check.{Terms}
-use Rattle.record.specs.Record.{check, order_answer}
+use Rattle.record.specs.Record.{check, checked, order_answer}
 use Rattle.record.proofs.CheckTerms.{refused_terms, on_terms}
 use Rattle.book.specs.Book.{view}
-use Rattle.book.proofs.Responses.{refused_responds, check_responds}
+use Rattle.book.proofs.Responses.{refused_call, check_responds}
 use Rattle.checking.proofs.check.Goals as goal
 
 pub returns-in_err-terms : goal.returns-in_err-terms
 returns-in_err-terms c =
     let a = c.args in
-    let is : c.from_residual.result ≡ Err c.in_err-terms.field-0.0 = search rules in
-    rw is
-    (refused_responds a.b.now (check a.product a.size a.month a.price) _
-    (refused_terms (view a.b.now) a.product a.size a.month a.price _ (sym c.in_err-terms.ensures.refusal)))
+    refused_call checked a.b.now (check a.product a.size a.month a.price) c.from_residual.result c.in_err-terms.field-0.0 (search rules)
+    (sym (refused_terms (view a.b.now) a.product a.size a.month a.price _ (sym c.in_err-terms.ensures.refusal)))
 
 pub returns : goal.returns
 returns c =

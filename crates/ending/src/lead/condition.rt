@@ -56,10 +56,9 @@ impl ProductMoves<'_> {
         let Some(settlement) = self.items.today.find(month) else {
             return false;
         };
-        let Some(earlier) = self.items.last.find(month) else {
+        let Some(size) = self.items.last.change_to(month, settlement) else {
             return false;
         };
-        let size = settlement.abs_diff(earlier);
         match condition {
             Condition::OneAtInitial => self.is_trigger(month, size),
             Condition::TwoAtInitial => self.is_trigger(month, size) && self.are_enough(),

@@ -1,32 +1,23 @@
-use Rattle.std.proofs.Common.{rules, ◌≡◌, refl, sym, ◌∙◌, Result, Err, Some}
-use Rattle.grain.specs.Refusals.{number_of}
-use Rattle.grain.specs.declared.refusals.Refusal.{Refusal}
-use Rattle.record.specs.Record.{Call, sheet, filed, refusal, answer}
+use Rattle.std.proofs.Common.{rules, ◌≡◌, refl, sym, ◌∙◌}
+use Rattle.record.specs.Record.{sheet, filed, answer}
 use Rattle.record.specs.Sheet.{contracts}
-use Rattle.book.specs.declared.Book.{Book}
 use Rattle.book.specs.Book.{view}
-use Rattle.book.specs.Calls.{Responds}
 use Rattle.book.proofs.OpenDays.{is_sound_open}
 use Rattle.book.proofs.SoundFacts.{day_in}
-use Rattle.book.proofs.Responses.{refused_responds, accepted_responds}
-use Rattle.filing.specs.Files.{filed_as}
+use Rattle.book.proofs.Responses.{refused_call, accepted_responds}
 use Rattle.filing.proofs.Filings.{made, phase_refuses, early_refuses, early, refusal_late, sheet_in_lem, filed_view}
 use Rattle.filing.proofs.sheet.Goals as goal
-
-refused : (b : Book) (c : Call) (r : Result (Unit {0}) Refusal) (e : Refusal) → r ≡ Err e → Some (number_of e) ≡ refusal (view b) c
-    → Responds b c (filed_as r) b
-refused b c r e is by = rw is (refused_responds b c (number_of e) (sym by))
 
 pub returns-in_err-date : goal.returns-in_err-date
 returns-in_err-date c =
     let a = c.args in
-    refused a.b.now (sheet a.product a.months.now a.settlements.now) _ c.in_err-date.field-0.0 (search rules)
+    refused_call (λ u. filed) a.b.now (sheet a.product a.months.now a.settlements.now) _ c.in_err-date.field-0.0 (search rules)
     (sym (phase_refuses (view a.b.now) a.product a.months.now a.settlements.now _ (sym c.in_err-date.ensures.refusal)))
 
 pub returns-in_err-early_refusal : goal.returns-in_err-early_refusal
 returns-in_err-early_refusal c =
     let a = c.args in
-    refused a.b.now (sheet a.product a.months.now a.settlements.now) _ c.in_err-early_refusal.field-0.0 (search rules)
+    refused_call (λ u. filed) a.b.now (sheet a.product a.months.now a.settlements.now) _ c.in_err-early_refusal.field-0.0 (search rules)
     (sym (early_refuses (view a.b.now) a.product a.months.now a.settlements.now c.in_ok-date.ensures.refusal _ (sym c.in_err-early_refusal.ensures)))
 
 pub contract_refusal-requires : goal.contract_refusal-requires
@@ -40,7 +31,7 @@ returns-in_err-contract_refusal c =
     let a = c.args in
     let e = early a.b.now a.product a.months.now a.settlements.now (sym c.in_ok-early_refusal.ensures) in
     let is = made a.months.now a.settlements.now c.of-sheet.result c.of-sheet.ensures e.arrays in
-    refused a.b.now (sheet a.product a.months.now a.settlements.now) _ c.in_err-contract_refusal.field-0.0 (search rules)
+    refused_call (λ u. filed) a.b.now (sheet a.product a.months.now a.settlements.now) _ c.in_err-contract_refusal.field-0.0 (search rules)
     (c.in_err-contract_refusal.ensures ∙ sym (refusal_late a.b.now a.product a.months.now a.settlements.now c.of-sheet.result c.in_ok-date.ensures.refusal e is))
 
 pub returns : goal.returns

@@ -27,4 +27,4 @@ pub returns : goal.returns
 unfolding season_limits
 returns c =
     simp
-    (c.expanded.ensures, c.season_initial-initial.ensures, c.sum_of.ensures, lt-ltb _ _ c.if-product-ge-PRODUCTS.false, eq-eqb _ _ c.if-settlements-ne-WINDOW_LENGTH.false, sym c.are_settlements.ensures ∙ c.if-not-are_settlements.false)
+    (c.of.ensures, c.season_initial-initial.ensures, c.sum_of.ensures, lt-ltb _ _ c.if-product-ge-PRODUCTS.false, eq-eqb _ _ c.if-settlements-ne-WINDOW_LENGTH.false, sym c.are_settlements.ensures ∙ c.if-not-are_settlements.false)

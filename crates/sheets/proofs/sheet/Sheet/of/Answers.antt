@@ -8,7 +8,8 @@ use Rattle.std.proofs.lemmas.Iterator.Consumers.{YieldsList-from_enumerate}
 use Rattle.record.specs.Sheet.{contracts}
 use Rattle.sheets.specs.Sheets.{entries_of}
 use Rattle.sheets.proofs.Fills.{contracts-length}
-use Rattle.sheets.proofs.Yielded.{all_yielded, contract_of, pairs_are, map_twice}
+use Rattle.sheets.proofs.Yielded.{all_yielded, contract_of, pairs_are}
+use Rattle.std.proofs.lemmas.Simd.{map-map}
 use Rattle.sheets.proofs.sheet.Sheet.of.Given as given
 use Rattle.sheets.proofs.sheet.Sheet.of.Goals as goal
 
@@ -19,7 +20,7 @@ returns c =
     let ss = c.args.settlements.now in
     let road = YieldsList-from_enumerate {s = c.into_iter-i-iterator.result} (YieldsList-from_take 16 (YieldsList-from_zip (YieldsList-from_slice ms cc) (YieldsList-from_slice ss cc)) cc) cc in
     let items = all_yielded given.iterator-loop-i.next_gives (λ y. (y.0, (y.1.0.now, y.1.1.now))) c.into_iter-i-iterator.result c.loop-i.i-iterator c.next.new.self c.loop-i.yielded _ c.loop-i.yielded_by (rw c.in-None.is at c.next.ensures.steps) road.runs in
-    let put = sym (map_twice _ contract_of c.loop-i.yielded) ∙ ap (map contract_of) items ∙ pairs_are 0 16 ms ss in
+    let put = sym (map-map contract_of _ c.loop-i.yielded) ∙ ap (map contract_of) items ∙ pairs_are 0 16 ms ss in
     let long : length c.loop-i.yielded ≡ min 16 (length (contracts ms ss)) = sym (length-map c.loop-i.yielded _) ∙ ap length put ∙ length-take 16 (contracts ms ss) in
     let n : c.min-n.result ≡ min 16 (length (contracts ms ss)) = rw (contracts-length ms ss) (omega arith) in
     record {
