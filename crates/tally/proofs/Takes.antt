@@ -5,7 +5,7 @@ use mathlib.Core.Bool.{Bool, true, false, not, cond}
 use lib.Dec.{eqb}
 use native.Mathlib.Omega.{arith}
 use borrow.Author.Tests.{eqb-true, eqb-false}
-use Rattle.std.specs.Prelude.{Option, Some, None, is_some}
+use Rattle.std.specs.Prelude.{Result, Ok, Err, is_ok}
 use Rattle.grain.specs.Refusals.{unsound}
 use Rattle.grain.specs.declared.refusals.Refusal.{Refusal}
 use Rattle.grain.proofs.RefusalNumbers.{number_positive}
@@ -27,10 +27,11 @@ taking t e = go (eqb t.asked (sum_of t)) (eqb t.asked 4294967295) refl refl e
     go false y p q h = let z : ⊥ = omega arith in absurd z
 
 -- with no refusal the number is 0, and with one it is not
-pub none_refuses : (o : Option Refusal) (n : ℕ) → refusal_number o ≡ n → is_some o ≡ false → n ≡ 0
-none_refuses None n e h = sym e
-none_refuses (Some r) n e h = let z : ◌≡◌ {A = Bool} true false = h in cc
+module _ {A : Type 0} where
+  pub none_refuses : (r : Result A Refusal) (n : ℕ) → refusal_number r ≡ n → is_ok r ≡ true → n ≡ 0
+  none_refuses (Ok a) n e h = sym e
+  none_refuses (Err r) n e h = let z : ◌≡◌ {A = Bool} false true = h in cc
 
-pub one_refuses : (o : Option Refusal) (n : ℕ) → refusal_number o ≡ n → is_some o ≡ true → eqb n 0 ≡ false
-one_refuses None n e h = let z : ◌≡◌ {A = Bool} false true = h in cc
-one_refuses (Some r) n e h = rw (sym e) (number_positive r)
+  pub one_refuses : (r : Result A Refusal) (n : ℕ) → refusal_number r ≡ n → is_ok r ≡ false → eqb n 0 ≡ false
+  one_refuses (Ok a) n e h = let z : ◌≡◌ {A = Bool} true false = h in cc
+  one_refuses (Err r) n e h = rw (sym e) (number_positive r)

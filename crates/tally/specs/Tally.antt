@@ -1,5 +1,5 @@
 -- A tally: when it refuses a check, and what it is after one that it takes.
-use Rattle.std.specs.Prelude.{ℕ, ◌+◌, ◌≡◌, Bool, not, cond, eqb, Option, Some, None, Result, Ok, Err}
+use Rattle.std.specs.Prelude.{ℕ, ◌+◌, ◌≡◌, Bool, not, cond, eqb, Result, Ok, Err}
 use Rattle.grain.specs.Refusals.{unsound, number_of}
 pub use Rattle.grain.specs.Refusals.{tally_full}
 use Rattle.grain.specs.declared.refusals.Refusal.{Refusal}
@@ -26,10 +26,10 @@ tally_refusal t = cond (not (is_sound_tally t)) unsound (cond (is_full t) tally_
 abbrev pub takes : Tally → Bool
 takes t = eqb (tally_refusal t) 0
 
--- the number of a refusal, or 0
-abbrev pub refusal_number : Option Refusal → ℕ
-refusal_number None = 0
-refusal_number (Some r) = number_of r
+-- the number of the refusal, or 0
+abbrev pub refusal_number : {A : Type 0} → Result A Refusal → ℕ
+refusal_number (Ok a) = 0
+refusal_number (Err r) = number_of r
 
 -- the result is the refusal with this number
 abbrev pub IsRefusedWith : ℕ → Result Verdict Refusal → Type 0

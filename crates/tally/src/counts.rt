@@ -16,17 +16,17 @@ impl Tally {
     }
 
     // Why it refuses every check, where it does.
-    pub fn refusal(&self) -> Option<Refusal>
+    pub fn refusal(&self) -> Result<(), Refusal>
         ensures { refusal_number result ≡ tally_refusal self.now }
     {
         let asked = self.asked as u64;
         if asked != self.sum() {
-            return Some(Refusal::Unsound);
+            return Err(Refusal::Unsound);
         }
         if self.asked == u32::MAX {
-            return Some(Refusal::TallyFull);
+            return Err(Refusal::TallyFull);
         }
-        None
+        Ok(())
     }
 
     fn count_one(&mut self, kind: Kind)
@@ -48,7 +48,7 @@ impl Tally {
     pub fn count(&mut self, kind: Kind)
         ensures { self.new ≡ counted self.old kind }
     {
-        if self.refusal().is_none() {
+        if self.refusal().is_ok() {
             self.count_one(kind);
         }
     }

@@ -11,9 +11,7 @@ impl Tally {
         ensures taken { takes self.old ≡ true → (result ≡ answer) × (self.new ≡ counted self.old (kind_of answer)) }
         ensures refused { takes self.old ≡ false → IsRefusedWith (tally_refusal self.old) result × (self.new ≡ self.old) }
     {
-        if let Some(refusal) = self.refusal() {
-            return Err(refusal);
-        }
+        self.refusal()?;
         self.count(answer.into());
         answer
     }
