@@ -1,4 +1,4 @@
--- One more check in a tally's six words: what both checks through a tally cite.
+-- What a result's number is counted as.
 use Rattle.std.proofs.Common.{◌≡◌, refl, Result, Ok, Err}
 use Rattle.grain.specs.Bare.{checked_number}
 use Rattle.grain.specs.declared.check.Verdict.{Verdict}

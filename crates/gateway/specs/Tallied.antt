@@ -13,12 +13,14 @@ unfoldable pub kind_of_number : ℕ → Kind
 kind_of_number n =
     cond (eqb n free) Free (cond (eqb n within) Within (cond (eqb n below) Below (cond (eqb n above) Above Refused)))
 
--- 1 and 15 are the tally's own; every other answer is the bare check's, and is counted
-pub record TalliesBare (t : Tally) (product size settlement amount spot price r : ℕ) (after : Tally) : Type 0 where
-  pub answer : r ≡ cond (takes t) (bare_check product size settlement amount spot price) (tally_refusal t)
-  pub tally : after ≡ counted t (kind_of_number (bare_check product size settlement amount spot price))
+-- a check that alone returns n: 1 and 15 are the tally's own; every other answer is the check's, and is counted
+pub record Tallies (n : ℕ) (t : Tally) (r : ℕ) (after : Tally) : Type 0 where
+  pub answer : r ≡ cond (takes t) n (tally_refusal t)
+  pub tally : after ≡ counted t (kind_of_number n)
 
--- the same of a check on the book in words, which are lent to read only; the book's own 1 is counted as refused
-pub record TalliesImage (t : Tally) (ws : List ℕ) (product size month price r : ℕ) (after : Tally) : Type 0 where
-  pub answer : r ≡ cond (takes t) (image_check ws product size month price) (tally_refusal t)
-  pub tally : after ≡ counted t (kind_of_number (image_check ws product size month price))
+abbrev pub TalliesBare : Tally → ℕ → ℕ → ℕ → ℕ → ℕ → ℕ → ℕ → Tally → Type 0
+TalliesBare t product size settlement amount spot price r after = Tallies (bare_check product size settlement amount spot price) t r after
+
+-- of a check on the book in words, which are lent to read only; the book's own 1 is counted as refused
+abbrev pub TalliesImage : Tally → List ℕ → ℕ → ℕ → ℕ → ℕ → ℕ → Tally → Type 0
+TalliesImage t ws product size month price r after = Tallies (image_check ws product size month price) t r after

@@ -1,10 +1,21 @@
 // The bare check and the check on a book through a tally, which is lent as six words.
+ghost use Rattle.grain.specs.Bare.{checked_number};
 ghost use Rattle.tally.specs.Words.{tally_in};
-ghost use Rattle.gateway.specs.Tallied.{TalliesBare, TalliesImage};
+ghost use Rattle.gateway.specs.Tallied.{Tallies, TalliesBare, TalliesImage};
 
-use grain::checked_number;
+use grain::{Refusal, Verdict, checked_number};
 use image::{WORDS, book_in};
 use tally::{TALLY_WORDS, Tally};
+
+// Passes a check's answer through the tally in the words, and gives its number.
+fn through(words: &mut [u32; TALLY_WORDS], checked: Result<Verdict, Refusal>) -> u32
+    ensures { Tallies (checked_number checked) (tally_in words.old) result (tally_in words.new) }
+{
+    let mut t = Tally::from(*words);
+    let answer = t.through(checked);
+    *words = t.into();
+    checked_number(answer)
+}
 
 #[unsafe(no_mangle)]
 pub extern "C" fn botskhela_tallied_check(
@@ -18,10 +29,10 @@ pub extern "C" fn botskhela_tallied_check(
 ) -> u32
     ensures { TalliesBare (tally_in tally.old) product size settlement amount spot price result (tally_in tally.new) }
 {
-    let mut t = Tally::from(*tally);
-    let answer = t.through(grain::bare_check(product, size, settlement, amount, spot, price));
-    *tally = t.into();
-    checked_number(answer)
+    through(
+        tally,
+        grain::bare_check(product, size, settlement, amount, spot, price),
+    )
 }
 
 #[unsafe(no_mangle)]
@@ -35,9 +46,8 @@ pub extern "C" fn botskhela_tallied_book_check(
 ) -> u32
     ensures { TalliesImage (tally_in tally.old) words.now product size month price result (tally_in tally.new) }
 {
-    let mut t = Tally::from(*tally);
-    let b = book_in(words);
-    let answer = tallying::tallied_check(&b, &mut t, product, size, month, price);
-    *tally = t.into();
-    checked_number(answer)
+    through(
+        tally,
+        checking::check(&book_in(words), product, size, month, price),
+    )
 }
