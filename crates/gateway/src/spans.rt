@@ -20,13 +20,10 @@ pub struct Spanned {
 fn span_of(checked: Result<Verdict, Refusal>) -> Span
     ensures { result ≡ bare_span checked }
 {
-    match checked {
-        Ok(verdict) => verdict.span().unwrap_or_default(),
-        Err(_) => Span::default(),
-    }
+    checked.ok().and_then(Verdict::span).unwrap_or_default()
 }
 
-// An end each: C can take one of the two from a function, and no pair.
+// The span of a bare check: two exported names, an end each.
 #[unsafe(no_mangle)]
 pub extern "C" fn botskhela_bare_lowest(
     product: u32,
