@@ -1,9 +1,8 @@
 // The windows as words: the sizes, then the settlements of each.
-ghost use Rattle.std.specs.Prelude.{◌≡◌, ◌<◌, length};
-ghost use Rattle.grain.specs.Products.{product_count};
+ghost use Rattle.std.specs.Prelude.{◌≡◌, length};
 ghost use Rattle.grain.specs.Amounts.{window_length};
 ghost use Rattle.image.specs.Places.{windows_words};
-ghost use Rattle.image.specs.Image.{window_in, windows_in, words_of_windows};
+ghost use Rattle.image.specs.Image.{windows_in, words_of_windows};
 ghost use Rattle.image.specs.Put.{WindowsPut};
 
 use crate::counts::count_word;
@@ -26,17 +25,13 @@ impl ToWords for Window {
     }
 }
 
-// Of product p.
-fn window_in(words: &[u32], p: usize) -> Window
-    requires long { length words.now ≡ windows_words }
-    requires place { p < product_count }
-    ensures { result ≡ window_in words.now p }
+fn window_of(size: u32, settlements: &[u32]) -> Window
+    requires { length settlements.now ≡ window_length }
+    ensures { result ≡ record { settlements = settlements.now; size = size } }
 {
-    let at = PRODUCT_COUNT + WINDOW_LENGTH * p;
-    let past = at + WINDOW_LENGTH;
     Window {
-        settlements: read_all(&words[at..past]),
-        size: words[p] as usize,
+        settlements: read_all(settlements),
+        size: size as usize,
     }
 }
 
@@ -44,7 +39,11 @@ pub(crate) fn windows_in(words: &[u32]) -> [Window; PRODUCT_COUNT]
     requires { length words.now ≡ windows_words }
     ensures { result ≡ windows_in words.now }
 {
-    array::from_fn(|p| window_in(words, p))
+    array::from_fn(|p| {
+        let at = PRODUCT_COUNT + WINDOW_LENGTH * p;
+        let past = at + WINDOW_LENGTH;
+        window_of(words[p], &words[at..past])
+    })
 }
 
 pub(crate) fn put_windows(windows: &[Window; PRODUCT_COUNT], out: &mut [u32])
