@@ -15,10 +15,7 @@ impl ToWords for Option<Day> {
 
     fn put(self, out: &mut [u32]) {
         let d = self.unwrap_or_default();
-        out[0] = d.year;
-        out[1] = d.month;
-        out[2] = d.day;
-        out[3] = d.left;
+        out.copy_from_slice(&[d.year, d.month, d.day, d.left]);
     }
 }
 

@@ -13,6 +13,7 @@ impl ToWords for Standing {
 
     ghost words_of = { words_of_standing };
 
+    // Word by word: by `copy_from_slice` a filing takes 4% longer.
     fn put(self, out: &mut [u32]) {
         out[0] = u32::from(self.expanded);
         out[1] = u32::from(self.marked);
