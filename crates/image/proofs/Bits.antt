@@ -1,6 +1,5 @@
 -- Flags in words: the test of all of them, and a word for each.
 use Rattle.std.proofs.Common.{ℕ, Bool, true, false, ◌&&◌, ◌≡◌, refl, ap, List, [], ◌∷◌, map}
-use Rattle.std.specs.List.{list_all}
 use Rattle.grain.specs.Lists.{◌and◌, every}
 use Rattle.std.specs.Prelude.{◌*◌, eqb, get_or}
 use Rattle.record.specs.State.{group_count}
@@ -15,11 +14,6 @@ both true b = refl
 both false b = refl
 
 module _ {A : Type 0} where
-  pub all_is_every : (test : A → Bool) (l : List A) → list_all test l ≡ every test l
-  unfolding every
-  all_is_every test [] = refl
-  all_is_every test (a ∷ l) = rw (all_is_every test l) (both (test a) (every test l))
-
   pub flat_single : (word : A → ℕ) (l : List A) → flat (λ a. word a ∷ []) l ≡ map word l
   unfolding flat
   flat_single word [] = refl
