@@ -1,5 +1,5 @@
 -- What each call on a book by pointer promises, whatever words are lent: what the Record answers and does to the book in them.
-use Rattle.std.specs.Prelude.{ℕ, ◌*◌, ◌≡◌, List, map, replicate, Some, None, unwrap_or}
+use Rattle.std.specs.Prelude.{ℕ, ◌*◌, ◌≡◌, List, map, replicate, Some, None, unwrap_or, flat_map}
 use Rattle.grain.specs.Products.{product_count}
 use Rattle.grain.specs.Check.{span_in}
 use Rattle.grain.specs.Check.{verdict_number}
@@ -10,7 +10,6 @@ use Rattle.record.specs.Founding.{Start, founding_refusal, founded}
 use Rattle.record.specs.Record.{Call, check, Answer, refused, opened, filed, ended, checked, refusal, respond}
 use Rattle.book.specs.Book.{view}
 use Rattle.image.specs.Places.{event_words}
-use Rattle.image.specs.Words.{flat}
 use Rattle.image.specs.Image.{flag_word, book_in}
 use Rattle.image.specs.Answers.{words_of_event, renewed_in, events_in}
 use Rattle.gateway.specs.declared.spans.Spanned.{Spanned}
@@ -36,7 +35,7 @@ abbrev pub events_after : Answer → List ℕ → List ℕ
 events_after (refused n) es = es
 events_after (opened l) es = es
 events_after filed es = es
-events_after (ended l) es = flat words_of_event l
+events_after (ended l) es = flat_map words_of_event l
 events_after (checked v) es = es
 
 -- what the Record of the book in the words answers

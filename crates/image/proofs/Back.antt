@@ -7,7 +7,7 @@ use native.Mathlib.Omega.{arith}
 use lib.Dec.{eqb}
 use lib.ListN.{length, get_or, drop}
 use lib.Seq.{take_all, drop_at, drop-drop}
-use Rattle.std.specs.Prelude.{Option, Some, None}
+use Rattle.std.specs.Prelude.{Option, Some, None, flat_map}
 use borrow.Author.Tests.{le-leb, ne_eqb}
 use Rattle.grain.specs.Lists.{◌and◌, every}
 use Rattle.record.specs.declared.Day.{Day}
@@ -24,7 +24,7 @@ use Rattle.book.specs.Book.{no_limit, no_sheet, no_items, view}
 use Rattle.book.proofs.SoundFacts.{today_fits, last_fits, size_fits, true_day}
 use Rattle.image.specs.Places.{day_words, limit_words, standing_words, windows_words, contract_words, sheet_words}
 use Rattle.image.specs.Places as at
-use Rattle.image.specs.Words.{part, flat, chunks}
+use Rattle.image.specs.Words.{part, chunks}
 use Rattle.image.specs.Image.{flag_word, count_word, words_of_head, words_of_day, words_of_limit, words_of_standing, words_of_windows, words_of_contract, words_of_sheet, words_of_book, is_flag, limits_of, windows_of, todays_of, lasts_of, is_no_day, day_of, limit_of, standing_of, contract_of, sheet_of, window_in, windows_in, items_by, as_book, is_image, book_in}
 use Rattle.image.specs.Put.{SheetsPut, WindowsPut, Shaped}
 use Rattle.std.proofs.Math.ListN.{get_or-map, get_or-append}
@@ -47,8 +47,8 @@ flag_back : (b : Bool) → eqb (flag_word b) 1 ≡ b
 flag_back true = refl
 flag_back false = refl
 
-flags_are : (l : List Standing) → every is_flag (flat words_of_standing l) ≡ true
-unfolding every ◌and◌ flat
+flags_are : (l : List Standing) → every is_flag (flat_map words_of_standing l) ≡ true
+unfolding every ◌and◌
 flags_are [] = refl
 flags_are (s ∷ l) = rw (flag_is s.expanded, flag_is s.marked) (flags_are l)
 
@@ -70,13 +70,13 @@ day_back (Some d) t = rw (is_a_day d (t d refl))
 sheet_back : (s : Sheet) → length s.contracts ≡ 16 → s.len ≤ 16 → sheet_of (words_of_sheet s) ≡ s
 unfolding sheet_of words_of_sheet
 sheet_back s e l =
-    let words = flat words_of_contract s.contracts in
+    let words = flat_map words_of_contract s.contracts in
     let all : length words ≤ 16 * contract_words = omega (arith, flat_sized words_of_contract contract_words 16 s.contracts e (λ q d h. refl)) in
     rw (take_all (16 * contract_words) words all, le-leb s.len 16 l)
     (ap (λ cs. record { contracts = cs; len = s.len }) (chunks_back words_of_contract contract_words contract_of 16 s.contracts e (λ q d h. refl) (λ q d h. refl)))
 
 sheets_back : (ss : List Sheet) → SheetsPut ss → ((p : ℕ) → p < 8 → (get_or ss p no_sheet).len ≤ 16)
-    → chunks sheet_words sheet_of 8 (flat words_of_sheet ss) ≡ ss
+    → chunks sheet_words sheet_of 8 (flat_map words_of_sheet ss) ≡ ss
 sheets_back ss s e =
     let back = All-from_get_or (λ (t : Sheet). sheet_of (words_of_sheet t) ≡ t) ss no_sheet (λ q h. let l = rw s.all at h in sheet_back (get_or ss q no_sheet) (s.each q l) (e q l)) in
     chunks_back words_of_sheet sheet_words sheet_of 8 ss s.all (sheets_sized ss s) back
@@ -91,14 +91,14 @@ module _ (ws : List Window) (s : WindowsPut ws) (fit : (p : ℕ) → p < 8 → (
   unfolding words_of_windows
   settlements_at p l =
       let inside : p < length ws = rw s.all l in
-      rw (← (drop-drop (45 * p) 8 (words_of_windows ws)), drop_at (sizes_of ws) (flat settlements_of ws) 8 (sizes_long ws s))
+      rw (← (drop-drop (45 * p) 8 (words_of_windows ws)), drop_at (sizes_of ws) (flat_map settlements_of ws) 8 (sizes_long ws s))
       (flat_at settlements_of 45 ws p no_window (settlements_sized ws s) inside)
 
   size_at : (p : ℕ) → p < 8 → get_or (words_of_windows ws) p 0 ≡ (get_or ws p no_window).size
   unfolding words_of_windows
   size_at p l =
       let inside : p < length (sizes_of ws) = rw (sizes_long ws s) l in
-      get_or-append (sizes_of ws) (flat settlements_of ws) 0 p inside
+      get_or-append (sizes_of ws) (flat_map settlements_of ws) 0 p inside
       ∙ get_or-map (λ (w : Window). count_word 45 w.size) ws p no_window
       ∙ rw (le-leb (get_or ws p no_window).size 45 (fit p l))
 
@@ -132,19 +132,19 @@ module _ (b : Book) (s : Shaped b) (rest : List ℕ) where
 
   -- what follows each part of the words
   abbrev from_last : List ℕ
-  from_last = flat words_of_sheet (lasts_of b.products) ++ rest
+  from_last = flat_map words_of_sheet (lasts_of b.products) ++ rest
 
   abbrev from_today : List ℕ
-  from_today = flat words_of_sheet (todays_of b.products) ++ from_last
+  from_today = flat_map words_of_sheet (todays_of b.products) ++ from_last
 
   abbrev from_windows : List ℕ
   from_windows = words_of_windows (windows_of b.products) ++ from_today
 
   abbrev from_standings : List ℕ
-  from_standings = flat words_of_standing b.standings ++ from_windows
+  from_standings = flat_map words_of_standing b.standings ++ from_windows
 
   abbrev from_limits : List ℕ
-  from_limits = flat words_of_limit (limits_of b.products) ++ from_standings
+  from_limits = flat_map words_of_limit (limits_of b.products) ++ from_standings
 
   abbrev from_opened : List ℕ
   from_opened = words_of_day b.opened ++ from_limits
@@ -160,19 +160,19 @@ module _ (b : Book) (s : Shaped b) (rest : List ℕ) where
   at_limits = after-part ws (words_of_day b.opened) from_limits at.opened _ at_opened (day_long b.opened)
 
   at_standings : drop at.standings ws ≡ from_standings
-  at_standings = after-part ws (flat words_of_limit (limits_of b.products)) from_standings at.limits _ at_limits (limits_long b s)
+  at_standings = after-part ws (flat_map words_of_limit (limits_of b.products)) from_standings at.limits _ at_limits (limits_long b s)
 
   at_windows : drop at.windows ws ≡ from_windows
-  at_windows = after-part ws (flat words_of_standing b.standings) from_windows at.standings _ at_standings (standings_long b s)
+  at_windows = after-part ws (flat_map words_of_standing b.standings) from_windows at.standings _ at_standings (standings_long b s)
 
   at_today : drop at.today ws ≡ from_today
   at_today = after-part ws (words_of_windows (windows_of b.products)) from_today at.windows _ at_windows (windows_long (windows_of b.products) s.windows)
 
   at_last : drop at.last ws ≡ from_last
-  at_last = after-part ws (flat words_of_sheet (todays_of b.products)) from_last at.today _ at_today (sheets_long (todays_of b.products) s.today)
+  at_last = after-part ws (flat_map words_of_sheet (todays_of b.products)) from_last at.today _ at_today (sheets_long (todays_of b.products) s.today)
 
-  standings-part : part at.standings (group_count * standing_words) ws ≡ flat words_of_standing b.standings
-  standings-part = part_is ws (flat words_of_standing b.standings) from_windows at.standings _ at_standings (standings_long b s)
+  standings-part : part at.standings (group_count * standing_words) ws ≡ flat_map words_of_standing b.standings
+  standings-part = part_is ws (flat_map words_of_standing b.standings) from_windows at.standings _ at_standings (standings_long b s)
 
   is_image_lem : is_image ws ≡ true
   unfolding is_image ◌and◌
@@ -188,7 +188,7 @@ module _ (b : Book) (s : Shaped b) (rest : List ℕ) where
 
     limits_back : chunks limit_words limit_of 8 (part at.limits (8 * limit_words) ws) ≡ (limits_of b.products)
     limits_back =
-        rw (part_is ws (flat words_of_limit (limits_of b.products)) from_standings at.limits _ at_limits (limits_long b s))
+        rw (part_is ws (flat_map words_of_limit (limits_of b.products)) from_standings at.limits _ at_limits (limits_long b s))
         (chunks_back words_of_limit limit_words limit_of 8 (limits_of b.products) (length-map b.products (λ (h : Held). h.limit) ∙ s.products) (λ q d h. refl) (λ q d h. refl))
 
     standings_back : chunks standing_words standing_of group_count (part at.standings (group_count * standing_words) ws) ≡ b.standings
@@ -203,12 +203,12 @@ module _ (b : Book) (s : Shaped b) (rest : List ℕ) where
 
     today_back : chunks sheet_words sheet_of 8 (part at.today (8 * sheet_words) ws) ≡ (todays_of b.products)
     today_back =
-        rw (part_is ws (flat words_of_sheet (todays_of b.products)) from_last at.today _ at_today (sheets_long (todays_of b.products) s.today))
+        rw (part_is ws (flat_map words_of_sheet (todays_of b.products)) from_last at.today _ at_today (sheets_long (todays_of b.products) s.today))
         (sheets_back (todays_of b.products) s.today (λ p h. rw (get_or-map (λ (h : Held). h.today) b.products p no_items) (today_fits b sound p h)))
 
     last_back : chunks sheet_words sheet_of 8 (part at.last (8 * sheet_words) ws) ≡ (lasts_of b.products)
     last_back =
-        rw (part_is ws (flat words_of_sheet (lasts_of b.products)) rest at.last _ at_last (sheets_long (lasts_of b.products) s.last))
+        rw (part_is ws (flat_map words_of_sheet (lasts_of b.products)) rest at.last _ at_last (sheets_long (lasts_of b.products) s.last))
         (sheets_back (lasts_of b.products) s.last (λ p h. rw (get_or-map (λ (h : Held). h.last) b.products p no_items) (last_fits b sound p h)))
 
     as_book_lem : as_book ws ≡ b

@@ -1,5 +1,5 @@
 -- The words of a book, and the book in words.
-use Rattle.std.specs.Prelude.{ℕ, ◌+◌, ◌*◌, Bool, ◌&&◌, cond, List, [], ◌∷◌, ◌++◌, map, eqb, leb, ltb, get_or, Option, Some, None}
+use Rattle.std.specs.Prelude.{ℕ, ◌+◌, ◌*◌, Bool, ◌&&◌, cond, List, [], ◌∷◌, ◌++◌, map, eqb, leb, ltb, get_or, Option, Some, None, flat_map}
 use Rattle.grain.specs.Lists.{◌and◌, every}
 use Rattle.grain.specs.Products.{product_count}
 use Rattle.grain.specs.Amounts.{window_length}
@@ -18,7 +18,7 @@ use Rattle.book.specs.Numbers.{all_products}
 use Rattle.book.specs.Founding.{no_book}
 use Rattle.image.specs.Places.{format_number, day_words, limit_words, standing_words, windows_words, contract_words, sheet_words}
 use Rattle.image.specs.Places as at
-use Rattle.image.specs.Words.{part, flat, chunks}
+use Rattle.image.specs.Words.{part, chunks}
 
 -- ---- the words of a book
 abbrev pub flag_word : Bool → ℕ
@@ -44,13 +44,13 @@ words_of_standing s = flag_word s.expanded ∷ flag_word s.marked ∷ []
 
 -- the sizes of all windows, then the settlements of each
 unfoldable pub words_of_windows : List Window → List ℕ
-words_of_windows ws = map (λ (w : Window). count_word window_length w.size) ws ++ flat (λ (w : Window). w.settlements) ws
+words_of_windows ws = map (λ (w : Window). count_word window_length w.size) ws ++ flat_map (λ (w : Window). w.settlements) ws
 
 abbrev pub words_of_contract : Contract → List ℕ
 words_of_contract c = c.month ∷ c.settlement ∷ []
 
 unfoldable pub words_of_sheet : Sheet → List ℕ
-words_of_sheet s = count_word max_contracts s.len ∷ flat words_of_contract s.contracts
+words_of_sheet s = count_word max_contracts s.len ∷ flat_map words_of_contract s.contracts
 
 -- of what a book holds of its products, each part by itself
 abbrev pub limits_of : List Held → List Limit
@@ -69,11 +69,11 @@ unfoldable pub words_of_book : Book → List ℕ
 words_of_book b =
     words_of_head b.edition b.is_open
     ++ words_of_day b.opened
-    ++ flat words_of_limit (limits_of b.products)
-    ++ flat words_of_standing b.standings
+    ++ flat_map words_of_limit (limits_of b.products)
+    ++ flat_map words_of_standing b.standings
     ++ words_of_windows (windows_of b.products)
-    ++ flat words_of_sheet (todays_of b.products)
-    ++ flat words_of_sheet (lasts_of b.products)
+    ++ flat_map words_of_sheet (todays_of b.products)
+    ++ flat_map words_of_sheet (lasts_of b.products)
 
 -- ---- the book in words
 abbrev pub is_flag : ℕ → Bool

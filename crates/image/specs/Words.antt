@@ -1,15 +1,11 @@
--- A list as words, each element by the same number of them, and back.
-use Rattle.std.specs.Prelude.{ℕ, zero, suc, List, [], ◌∷◌, ◌++◌, take, drop}
+-- Words as a list, each element of the same number of them.
+use Rattle.std.specs.Prelude.{ℕ, zero, suc, List, [], ◌∷◌, take, drop}
 
 -- n words from place a on
 abbrev pub part : ℕ → ℕ → List ℕ → List ℕ
 part a n ws = take n (drop a ws)
 
 module _ {A : Type 0} where
-  unfoldable pub flat : (A → List ℕ) → List A → List ℕ
-  flat words [] = []
-  flat words (a ∷ l) = words a ++ flat words l
-
   -- n elements of k words each
   unfoldable pub chunks : ℕ → (List ℕ → A) → ℕ → List ℕ → List A
   chunks k of zero ws = []

@@ -1,9 +1,8 @@
 // A whole image written: the book, and what the last accepted opening and end answered. Every function here takes any words and any book.
-ghost use Rattle.std.specs.Prelude.{◌*◌, ◌≡◌, map, replicate};
+ghost use Rattle.std.specs.Prelude.{◌*◌, ◌≡◌, map, replicate, flat_map};
 ghost use Rattle.grain.specs.Products.{product_count};
 ghost use Rattle.record.specs.State.{group_count};
 ghost use Rattle.image.specs.Places as at;
-ghost use Rattle.image.specs.Words.{flat};
 ghost use Rattle.image.specs.Image.{flag_word};
 ghost use Rattle.image.specs.Answers.{words_of_event, renewed_in, events_in};
 ghost use Rattle.image.specs.Put.{Put};
@@ -31,7 +30,7 @@ pub fn put_opened(w: &mut [u32; WORDS], b: &Book, renewed: [bool; PRODUCT_COUNT]
 }
 
 pub fn put_ended(w: &mut [u32; WORDS], b: &Book, events: [Event; GROUP_COUNT])
-    ensures { Put b.now (renewed_in w.old) (flat words_of_event events) w.new }
+    ensures { Put b.now (renewed_in w.old) (flat_map words_of_event events) w.new }
 {
     write_book(w, b);
     put_all(&events, &mut w[places::EVENTS..places::WORDS]);

@@ -1,7 +1,7 @@
 // The items of an image, so many words each: written and read back, one or an array of them.
-ghost use Rattle.std.specs.Prelude.{◌*◌, ◌≡◌, ℕ, List, length};
+ghost use Rattle.std.specs.Prelude.{◌*◌, ◌≡◌, ℕ, List, length, flat_map};
 ghost use Rattle.std.specs.List.{All};
-ghost use Rattle.image.specs.Words.{flat, chunks};
+ghost use Rattle.image.specs.Words.{chunks};
 
 use std::array;
 
@@ -33,7 +33,7 @@ pub(crate) trait FromWords: ToWords {
 pub(crate) fn put_all<T: ToWords, const N: usize>(items: &[T; N], out: &mut [u32])
     requires { length out.old ≡ N * T.COUNT }
     ensures long { length items.now ≡ N }
-    ensures words { out.new ≡ flat T.words_of items.now }
+    ensures words { out.new ≡ flat_map T.words_of items.now }
     ensures sized { All (λ x. length (T.words_of x) ≡ T.COUNT) items.now }
 {
     // By index: a proof knows nothing of what is written through `chunks_exact_mut`.
