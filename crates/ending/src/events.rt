@@ -21,20 +21,16 @@ impl GroupMoves<'_> {
     fn initial_event(&self) -> Event
         ensures { result ≡ event_of (conditions_of self.now.day.book.now.edition) initial (standing_in self.now.day.book.now self.now.group).marked (moves_in self.now) }
     {
-        match self.leading(trigger_of(self.day.book.edition)) {
-            Some(at) => Event::Triggered(at),
-            None => Event::Quiet,
-        }
+        self.leading(trigger_of(self.day.book.edition))
+            .map_or(Event::Quiet, Event::Triggered)
     }
 
     // Of an expanded group that is not raised.
     fn held_or_reverted(&self) -> Event
         ensures { result ≡ led_by (lead_for (holding_of self.now.day.book.now.edition) (moves_in self.now)) Held Reverted }
     {
-        match self.leading(holding_of(self.day.book.edition)) {
-            Some(at) => Event::Held(at),
-            None => Event::Reverted,
-        }
+        self.leading(holding_of(self.day.book.edition))
+            .map_or(Event::Reverted, Event::Held)
     }
 
     #[tactic(auto, using(crate::proofs::Asked::holding_is), unfolding(record::specs::End::event_of))]
