@@ -14,13 +14,7 @@ use windows::Window;
 fn is_up_to_middle_of(month: u32, d: Day) -> bool
     ensures { result ≡ up_to_middle_of month d }
 {
-    if d.month < month {
-        return true;
-    }
-    if d.month != month {
-        return false;
-    }
-    d.day <= 15
+    (d.month, d.day) <= (month, 15)
 }
 
 // December, for Soybeans (1) and Rough Rice (7) November.
