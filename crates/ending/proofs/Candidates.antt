@@ -10,7 +10,7 @@ use Rattle.record.specs.Choices.{keep}
 use Rattle.record.specs.Move.{Move}
 use Rattle.ending.specs.declared.lead.condition.Condition.{Condition}
 use Rattle.ending.specs.Lead.{meets, suffice, candidates}
-use Rattle.ending.proofs.Ands.{and_true, and_false}
+use Rattle.std.proofs.Math.Bool.{and-true, and-false}
 use Rattle.ending.proofs.Members.{Member}
 use Rattle.ending.proofs.MovesIn.{has_move}
 
@@ -32,8 +32,8 @@ module _ (g : Move → Bool) where
   kept-month m (v ∷ ms) = go (g v) refl (kept-month m ms)
     where
       go : (x : Bool) → g v ≡ x → list_any (is_of m) (keep g ms) ≡ has_move g m ms → list_any (is_of m) (keep g (v ∷ ms)) ≡ has_move g m (v ∷ ms)
-      go true e later = rw (e, later, and_true (is_of m v))
-      go false e later = rw (e, later, and_false (is_of m v))
+      go true e later = rw (e, later, and-true (is_of m v))
+      go false e later = rw (e, later, and-false (is_of m v))
 
 pub candidate_moves : (condition : Condition) (v : Move) (ms : List Move) → Member v (candidates condition ms) → Member v ms
 candidate_moves condition v ms = go (suffice condition (keep (meets condition) ms))

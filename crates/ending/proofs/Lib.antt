@@ -1,4 +1,3 @@
-pub mod Ands
 pub mod Earlier
 pub mod Leads
 pub mod Members

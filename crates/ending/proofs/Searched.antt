@@ -28,7 +28,7 @@ use Rattle.book.proofs.SheetsIn.{sheet_contracts}
 use Rattle.ending.specs.declared.lead.condition.Condition.{Condition}
 use Rattle.ending.specs.Search.{count_earlier, change_meets, meets_on, suffice_in, next_among, is_met_by, is_met}
 use Rattle.ending.specs.Lead.{meets, candidates, moves_of, Readable}
-use Rattle.ending.proofs.Ands.{and_comm}
+use Rattle.std.proofs.Math.Bool.{and_comm}
 use Rattle.ending.proofs.Nexts.{Nearest, Listed, nearest_among}
 use Rattle.ending.proofs.Members.{member_between, Member, member_any, any_member, member_left, member_right, member_either}
 use Rattle.ending.proofs.Leads.{lead_by, Behind, none-lead, one_leads}
