@@ -54,8 +54,8 @@ module _ {A : Type 0} where
   member_at (x ∷ l) (suc i) d h = inr (member_at l i d (le_of_suc-le-suc h))
 
   -- an element from place lo on and before hi
-  pub member_between : (l : List A) (lo hi p : ℕ) (d : A) → hi ≤ length l → lo ≤ p → p < hi → Member (get_or l p d) (take (hi - lo) (drop lo l))
-  member_between l lo hi p d most k h =
+  pub member_between : (l : List A) (lo hi p : ℕ) (d : A) → p < length l → lo ≤ p → p < hi → Member (get_or l p d) (take (hi - lo) (drop lo l))
+  member_between l lo hi p d in_list k h =
       let part : List A = take (hi - lo) (drop lo l) in
       let place : lo + (p - lo) ≡ p = omega arith in
       let inside : p - lo < hi - lo = omega arith in

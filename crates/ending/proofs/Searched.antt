@@ -1,6 +1,6 @@
 -- The search for the leading contract, month after month: what is known where a month has been looked through.
 use Prim.Native.Nat.{ℕ, zero, suc, ◌+◌, ◌-◌, ◌≤◌, ◌<◌}
-use mathlib.Core.Path.{◌≡◌, refl, sym, subst, ◌∙◌, ap₂}
+use mathlib.Core.Path.{◌≡◌, refl, sym, subst, ◌∙◌, ap, ap₂}
 use mathlib.Core.Bool.{Bool, true, false, ◌&&◌, cond, false≢true}
 use mathlib.Core.List.{List, map}
 use Rattle.std.specs.Prelude.{Option, Some, None, is_some}
@@ -14,6 +14,7 @@ use Rattle.grain.specs.declared.spot.TradeDate.{TradeDate}
 use Rattle.grain.specs.Spot.{is_spot}
 use Rattle.grain.specs.Products.{first_of}
 use Rattle.std.specs.List.{list_any}
+use Rattle.std.proofs.lemmas.List.{get_or_past}
 use Rattle.grain.proofs.Tests.{&&-left}
 use Rattle.record.specs.declared.Lead.{Lead}
 use Rattle.record.specs.Choices.{concat_map}
@@ -21,6 +22,7 @@ use Rattle.record.specs.State.{Product, settlement_on}
 use Rattle.record.specs.Move.{Move, product_moves}
 use Rattle.record.specs.End.{leading}
 use Rattle.sheets.specs.Sheets.{entries_of}
+use Rattle.book.specs.declared.product.Product.{Product as Held}
 use Rattle.book.specs.declared.Book.{Book}
 use Rattle.book.specs.Book.{no_items, items_in, limit_in, today_in, last_in, view_product, view_held}
 use Rattle.std.specs.List.{range_with_len}
@@ -98,12 +100,20 @@ seen_next f lo hi m clear here q n k l h = ⊎_elim (λ same. rw same (here q k 
 abbrev pub Among : Book → ℕ → ℕ → ℕ → Type 0
 Among b lo hi n = (q : ℕ) × (lo ≤ q) × (q < hi) × Listed (entries_of (today_in b q)) n
 
-pub nearest_in : (b : Book) (lo hi a : ℕ) (r : Option ℕ) → hi ≤ length b.products → r ≡ next_among a (take (hi - lo) (drop lo b.products))
+-- a product whose sheet has a month is one of the book
+has_product : (b : Book) (q n : ℕ) → Listed (entries_of (today_in b q)) n → q < length b.products
+unfolding entries_of
+has_product b q n on =
+    ⊎_elim (λ h. h)
+    (λ (past : length b.products ≤ q). absurd (false≢true (sym (ap (λ (x : Held). is_some (settlement_on (entries_of x.today) n)) (get_or_past b.products q no_items past)) ∙ on)))
+    (lt_or_ge q (length b.products))
+
+pub nearest_in : (b : Book) (lo hi a : ℕ) (r : Option ℕ) → r ≡ next_among a (take (hi - lo) (drop lo b.products))
     → Nearest (Among b lo hi) a r
-nearest_in b lo hi a r most e =
+nearest_in b lo hi a r e =
     rw e
     (nearest_among a (take (hi - lo) (drop lo b.products)) (Among b lo hi)
-    (λ n d. (items_in b d.0, member_between b.products lo hi d.0 no_items most d.1 d.2, d.3)))
+    (λ n d. (items_in b d.0, member_between b.products lo hi d.0 no_items (has_product b d.0 n d.3) d.1 d.2, d.3)))
 
 module _ (b : Book) (date : TradeDate) (condition : Condition) where
   -- the contract of product p in month m meets the condition

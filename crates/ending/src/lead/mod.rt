@@ -1,43 +1,43 @@
 // The leading contract of a group: of those that meet an event's condition, the nearest month, then the lowest product number.
-ghost use Rattle.std.specs.Prelude.{◌≡◌, ◌+◌, ◌≤◌, ◌<◌, length, slice_range};
-ghost use Rattle.record.specs.State.{group_count};
+ghost use Rattle.std.specs.Prelude.{◌≡◌, ◌+◌, slice_range};
 ghost use Rattle.book.specs.Numbers.{products_before};
 ghost use Rattle.ending.specs.Lead.{lead_for};
 ghost use Rattle.ending.specs.Moves.{moves_in};
 ghost use Rattle.ending.specs.Search.{is_met, FirstMet};
 
 use crate::moves::{GroupMoves, ProductMoves};
-use book::{Book, Product};
+use book::Product;
 pub(crate) use condition::Condition;
 use months::next_month;
 use record::Lead;
+use std::ops::Range;
 
 mod condition;
 mod enough;
 mod months;
 
-// The products of a group, which stand together.
-#[tactic(auto, using(book::proofs::ProductsBefore::before_next, book::proofs::ProductsBefore::before_small))]
-fn products_of(b: &Book, g: usize) -> &[Product]
-    requires { g < group_count }
-    ensures part { result.now ≡ slice_range b.now.products (products_before g) (products_before (g + 1)) }
-    ensures within { products_before (g + 1) ≤ length b.now.products }
-{
-    let first = book::products_before(g);
-    let past = book::products_before(g + 1);
-    &b.products[first..past]
-}
-
 impl GroupMoves<'_> {
+    // The numbers of the group's products, which stand together.
+    fn numbers(&self) -> Range<usize>
+        ensures { (result.start ≡ products_before self.now.group) × (result.end ≡ products_before (self.now.group + 1)) }
+    {
+        book::products_before(self.group)..book::products_before(self.group + 1)
+    }
+
+    #[tactic(auto, using(book::proofs::ProductsBefore::before_next, book::proofs::ProductsBefore::before_small))]
+    fn products(&self) -> &[Product]
+        ensures { result.now ≡ slice_range self.now.day.book.now.products (products_before self.now.group) (products_before (self.now.group + 1)) }
+    {
+        &self.day.book.products[self.numbers()]
+    }
+
     // The first product of the group whose contract of a month meets the condition.
     #[tactic(auto, using(book::proofs::ProductsBefore::before_small))]
     fn first_met(&self, condition: Condition, month: u32) -> Option<u32>
         ensures { FirstMet (is_met condition self.now.day.date self.now.day.book.now month) (products_before self.now.group) (products_before (self.now.group + 1)) result }
     {
-        let first = book::products_before(self.group);
-        let past = book::products_before(self.group + 1);
         // By number, which the lead names.
-        for p in first..past {
+        for p in self.numbers() {
             let product = p as u32;
             let moves = ProductMoves {
                 items: &self.day.book.products[p],
@@ -54,7 +54,7 @@ impl GroupMoves<'_> {
     pub(crate) fn leading(&self, condition: Condition) -> Option<Lead>
         ensures { result ≡ lead_for condition (moves_in self.now) }
     {
-        let products = products_of(self.day.book, self.group);
+        let products = self.products();
         // In the date's month every contract is spot.
         let mut month = self.day.date.month;
         // Each turn starts from the month that the one before found.

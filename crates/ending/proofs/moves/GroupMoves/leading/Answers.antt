@@ -11,7 +11,9 @@ use Rattle.ending.proofs.moves.GroupMoves.leading.Goals.{After-next_month}
 -- the next month after a month, over the products of the group
 
 near : (c : After-next_month) → Nearest (Among c.args.self.now.day.book.now (products_before c.args.self.now.group) (products_before (c.args.self.now.group + 1))) c.loop-next.month c.next_month.result
-near c = nearest_in c.args.self.now.day.book.now (products_before c.args.self.now.group) (products_before (c.args.self.now.group + 1)) c.loop-next.month _ c.products_of-products.ensures.within (rw c.products_of-products.ensures.part at c.next_month.ensures)
+near c =
+    let m = c.args.self.now in
+    nearest_in m.day.book.now (products_before m.group) (products_before (m.group + 1)) c.loop-next.month _ (rw c.products-products.ensures at c.next_month.ensures)
 
 ahead : (c : After-next_month)
     → let m = c.args.self.now in
