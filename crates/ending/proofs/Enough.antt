@@ -1,17 +1,20 @@
 -- Whether a product's moves of exactly I are enough in 2014, told by what its contracts count.
-use Prim.Native.Nat.{ℕ, pred, ◌+◌, ◌<◌, ◌≤◌}
+use Prim.Native.Nat.{ℕ, zero, suc, min, ◌+◌, ◌*◌, ◌^◌, ◌<◌, ◌≤◌}
 use mathlib.Core.Path.{◌≡◌, refl, sym, ◌∙◌, ap}
 use mathlib.Core.Bool.{Bool, true, false, not, ◌||◌, cond}
 use mathlib.Core.List.{List, [], ◌∷◌, ◌++◌}
 use Rattle.std.specs.Prelude.{Option, Some, None}
 use native.Mathlib.Omega.{arith}
-use borrow.Author.Tests.{lt-ltb, le-ltb, le-leb, eqb-true, eqb-false}
+use borrow.Author.Tests.{le-leb, lt-ltb, leb-true, ltb-true, ltb-false}
 use lib.Dec.{leb, ltb, eqb}
-use lib.ListN.{length, drop, get_or}
-use Rattle.std.proofs.lemmas.List.{drop_more}
-use Rattle.std.specs.List.{list_any}
+use lib.ListN.{length, take, get_or}
+use Rattle.std.specs.List.{list_any, filter, sum_by}
+use Rattle.std.proofs.lemmas.List.{get_or_past, length-take}
+use Rattle.std.proofs.lemmas.List.Elements.{All-from_get_or}
+use Rattle.std.proofs.lemmas.List.Sums.{sum_by-cons, sum_by-le}
+use Rattle.grain.proofs.Below.{below}
 use Rattle.grain.specs.Lists.{distance}
-use Rattle.grain.specs.Products.{first_of, is_last_crop_month}
+use Rattle.grain.specs.Products.{firsts, first_of, is_last_crop_month}
 use Rattle.grain.specs.Spot.{is_spot}
 use Rattle.grain.specs.declared.spot.TradeDate.{TradeDate}
 use Rattle.record.specs.declared.Contract.{Contract}
@@ -20,7 +23,7 @@ use Rattle.record.specs.State.{Product, max_contracts, sheet_or, settlement_on}
 use Rattle.record.specs.Move.{Move, move_from, moves_among, product_moves, is_trigger, is_of_last_crop_month}
 use Rattle.record.specs.Edition.{of2014}
 use Rattle.sheets.specs.declared.sheet.Sheet.{Sheet}
-use Rattle.sheets.specs.Sheets.{entries_of, sheet_in}
+use Rattle.sheets.specs.Sheets.{no_contract, entries_of, sheet_in}
 use Rattle.sheets.proofs.Rest.{counted as counted_lem}
 use Rattle.book.specs.declared.product.Product.{Product as Held}
 use Rattle.book.specs.Book.{view_held}
@@ -28,7 +31,7 @@ use Rattle.book.proofs.SheetsIn.{sheet_contracts}
 use Rattle.ending.specs.declared.lead.condition.Condition.{Condition}
 use Rattle.ending.specs.declared.lead.condition.Condition.TheVariants.{OneAtInitial, TwoAtInitial, AtLeastInitial, AtExpanded}
 use Rattle.ending.specs.Lead.{meets, suffice}
-use Rattle.ending.specs.Search.{count_of, count_at, more_after, count_from, are_enough_in, suffice_in}
+use Rattle.ending.specs.Search.{count_of, count_from, are_enough_in, suffice_in}
 
 -- what moves of exactly I count
 abbrev count_in : Move → ℕ
@@ -59,24 +62,38 @@ enough_by (m ∷ n ∷ ms) =
     ∙ sym (ap (◌|| list_any is_of_last_crop_month (m ∷ n ∷ ms)) (le-leb 2 (length (m ∷ n ∷ ms)) (omega arith)))
 
 -- a contract counts two at most
-pub at_most_two : (spot : ℕ → Bool) (p i : ℕ) (last : List Contract) (n : ℕ) (c : Contract) → count_at spot p i last n c ≤ 2
-unfolding count_at
-at_most_two spot p i last n c = go (spot c.month || eqb n 0) (settlement_on last c.month)
+at_most_two : (p i : ℕ) (last : List Contract) (c : Contract) → count_of p i last c ≤ 2
+unfolding count_of
+at_most_two p i last c = go (settlement_on last c.month)
   where
     some_change : (x y : Bool) → cond x (cond y 2 1) 0 ≤ 2
     some_change true true = omega arith
     some_change true false = omega arith
     some_change false y = omega arith
 
-    go : (x : Bool) (o : Option ℕ) → cond x 0 (count_of p i c o) ≤ 2
-    go true o = omega arith
-    go false None = omega arith
-    go false (Some y) = some_change (eqb (distance c.settlement y) i) (is_last_crop_month p c.month)
+    go : (o : Option ℕ) → count_from p i c o ≤ 2
+    go None = omega arith
+    go (Some y) = some_change (eqb (distance c.settlement y) i) (is_last_crop_month p c.month)
 
--- one contract more
-pub count_next : (spot : ℕ → Bool) (p i : ℕ) (last : List Contract) (n : ℕ) (s : List Contract) (j : ℕ) (d : Contract) → j < length s
-    → count_from spot p i last n (drop j s) ≡ count_at spot p i last n (get_or s j d) + count_from spot p i last (more_after spot n (get_or s j d).month) (drop (j + 1) s)
-count_next spot p i last n s j d h = ap (count_from spot p i last n) (drop_more s j d h)
+first_small : (p : ℕ) → first_of p ≤ 8
+unfolding firsts
+first_small p = go (ltb p 8) refl
+  where
+    go : (x : Bool) → ltb p 8 ≡ x → first_of p ≤ 8
+    go true e = leb-true _ _ (below 8 (λ p. leb (first_of p) 8) refl p (ltb-true _ _ e))
+    go false e =
+        let past : length firsts ≤ p = ltb-false p 8 e in
+        rw (get_or_past firsts p 0 past) (omega arith)
+
+-- what the first N count is a number of the code's
+pub sum_fits : (p i : ℕ) (last s : List Contract) → sum_by (count_of p i last) (take (first_of p) s) < 2 ^ 32
+sum_fits p i last s =
+    let f : Contract → ℕ = count_of p i last in
+    let few : List Contract = take (first_of p) s in
+    let most : sum_by f few ≤ length few * 2 = sum_by-le f 2 few (All-from_get_or (λ c. f c ≤ 2) few no_contract (λ j h. at_most_two p i last (get_or few j no_contract))) in
+    let long : length few ≡ min (first_of p) (length s) = length-take (first_of p) s in
+    let small = first_small p in
+    omega arith
 
 -- ---- joined lists
 module _ {A : Type 0} (f : A → Bool) where
@@ -94,12 +111,12 @@ counted-append [] ns = omega arith
 counted-append (m ∷ ms) ns = let later = counted-append ms ns in omega arith
 
 -- ---- the contracts of a sheet
-module _ (spot : ℕ → Bool) (q : Product) where
-  abbrev non_spot : List Contract → List Contract
-  non_spot s = keep (λ c. not (spot c.month)) s
-
+module _ (q : Product) where
   abbrev last_of : Contract → Option ℕ
   last_of c = settlement_on (sheet_or q.last) c.month
+
+  abbrev count : Contract → ℕ
+  count c = count_of q.number q.initial_limit (sheet_or q.last) c
 
   -- the move of a contract within the first N
   abbrev move_of : Contract → ℕ → Move
@@ -117,41 +134,35 @@ module _ (spot : ℕ → Bool) (q : Product) where
   abbrev triggers_of : Bool → Contract → Option ℕ → List Move
   triggers_of is_first c o = keep is_trigger (move_from q is_first c o)
 
-  first_counts : (c : Contract) (o : Option ℕ) → count_of q.number q.initial_limit c o ≡ counted (triggers_of true c o)
+  first_counts : (c : Contract) (o : Option ℕ) → counted (triggers_of true c o) ≡ count_from q.number q.initial_limit c o
   first_counts c None = refl
   first_counts c (Some y) = go (eqb (distance c.settlement y) q.initial_limit) (is_last_crop_month q.number c.month) refl
     where
-      go : (x z : Bool) → is_last_crop_month q.number c.month ≡ z → cond x (cond z 2 1) 0 ≡ counted (cond x (move_of c y ∷ []) [])
+      go : (x z : Bool) → is_last_crop_month q.number c.month ≡ z → counted (cond x (move_of c y ∷ []) []) ≡ cond x (cond z 2 1) 0
       go true z e = rw e (omega arith)
       go false z e = refl
 
-  late_counts : (c : Contract) (o : Option ℕ) → 0 ≡ counted (triggers_of false c o)
-  late_counts c None = refl
-  late_counts c (Some y) = refl
+  none_late : (c : Contract) (o : Option ℕ) → triggers_of false c o ≡ []
+  none_late c None = refl
+  none_late c (Some y) = refl
 
-  one_counts : (n : ℕ) (c : Contract) (o : Option ℕ)
-      → cond (eqb n 0) 0 (count_of q.number q.initial_limit c o) ≡ counted (triggers_of (ltb 0 n) c o)
-  one_counts n c o = go (eqb n 0) refl
-    where
-      go : (x : Bool) → eqb n 0 ≡ x → cond x 0 (count_of q.number q.initial_limit c o) ≡ counted (triggers_of (ltb 0 n) c o)
-      go true e = let zero = eqb-true n 0 e in rw (le-ltb 0 n (omega arith)) (late_counts c o)
-      go false e = let more = eqb-false n 0 e in rw (lt-ltb 0 n (omega arith)) (first_counts c o)
+  late_counts : (s : List Contract) → counted (keep is_trigger (moves_among q 0 s)) ≡ 0
+  late_counts [] = refl
+  late_counts (c ∷ s) =
+      rw (keep_append is_trigger (move_from q false c (last_of c)) (moves_among q 0 s), none_late c (last_of c)) (late_counts s)
 
-  abbrev counts_from : ℕ → List Contract → ℕ
-  counts_from n s = count_from spot q.number q.initial_limit (sheet_or q.last) n s
+  count_is : (n : ℕ) (s : List Contract) → counted (keep is_trigger (moves_among q n s)) ≡ sum_by count (take n s)
+  unfolding count_of
+  count_is zero s = late_counts s
+  count_is (suc n) [] = refl
+  count_is (suc n) (c ∷ s) =
+      let one = move_from q true c (last_of c) in
+      let rest = moves_among q n s in
+      rw (lt-ltb 0 (suc n) (omega arith), keep_append is_trigger one rest, counted-append (keep is_trigger one) (keep is_trigger rest), first_counts c (last_of c), count_is n s) (sym (sum_by-cons count c (take n s)))
 
-  count_is : (n : ℕ) (s : List Contract) → counts_from n s ≡ counted (keep is_trigger (moves_among q n (non_spot s)))
-  unfolding count_at more_after
-  count_is n [] = refl
-  count_is n (c ∷ s) = go (spot c.month) refl (λ k. count_is k s)
-    where
-      go : (x : Bool) → spot c.month ≡ x → ((k : ℕ) → counts_from k s ≡ counted (keep is_trigger (moves_among q k (non_spot s))))
-          → counts_from n (c ∷ s) ≡ counted (keep is_trigger (moves_among q n (non_spot (c ∷ s))))
-      go true e later = rw e (omega (arith, later n))
-      go false e later =
-          let rest = moves_among q (pred n) (non_spot s) in
-          let one = move_from q (ltb 0 n) c (last_of c) in
-          rw (e, keep_append is_trigger one rest, counted-append (keep is_trigger one) (keep is_trigger rest), ← (one_counts n c (last_of c)), ← (later (pred n)))
+kept_are : (f : Contract → Bool) (s : List Contract) → keep f s ≡ filter f s
+kept_are f [] = refl
+kept_are f (c ∷ s) = ap (λ (l : List Contract). cond (f c) (c ∷ l) l) (kept_are f s)
 
 -- ---- what a book holds of a product
 -- the contracts of a sheet whose count fits; where none is in there are none
@@ -160,12 +171,12 @@ sheet_entries s l = sheet_contracts s ∙ counted_lem s l
 
 module _ (items : Held) (date : TradeDate) (p : ℕ) (today : items.today.len ≤ max_contracts) (last : items.last.len ≤ max_contracts) where
   enough_is : of2014.are_enough (keep is_trigger (product_moves (is_spot date) (view_held items p))) ≡ are_enough_in date p items
-  unfolding product_moves view_held
+  unfolding product_moves view_held are_enough_in
   enough_is =
       let q = view_held items p in
       sym (enough_by (keep is_trigger (product_moves (is_spot date) q)))
-      ∙ ap (leb 2) (sym (count_is (is_spot date) q (first_of p) (sheet_or q.today)))
-      ∙ rw (sheet_entries items.today today, sheet_entries items.last last)
+      ∙ ap (leb 2) (count_is q (first_of p) (keep (λ c. not (is_spot date c.month)) (sheet_or q.today)))
+      ∙ rw (kept_are (λ c. not (is_spot date c.month)) (sheet_or q.today), sheet_entries items.today today, sheet_entries items.last last)
 
   pub suffices : (condition : Condition)
       → suffice condition (keep (meets condition) (product_moves (is_spot date) (view_held items p))) ≡ suffice_in condition date p items

@@ -1,6 +1,6 @@
 -- The search for the leading contract: the next month, and whether a product's contract of a month meets the condition.
 -- For the functions inside: what the search promises is in Lead.antt alone. All of it is of any sheet, also one of a damaged count.
-use Rattle.std.specs.Prelude.{ℕ, pred, ◌+◌, ◌<◌, ◌≤◌, ◌≡◌, min, Bool, true, false, not, ◌&&◌, ◌||◌, cond, List, [], ◌∷◌, map, leb, ltb, eqb, count_by, Option, Some, None}
+use Rattle.std.specs.Prelude.{ℕ, ◌<◌, ◌≤◌, ◌≡◌, min, Bool, true, false, not, ◌&&◌, cond, List, map, leb, ltb, eqb, sum_by, take, count_by, Option, Some, None}
 use Rattle.std.specs.List.{filter, filter_map, reduce}
 use Rattle.grain.specs.Lists.{distance}
 use Rattle.grain.specs.Products.{first_of, is_last_crop_month}
@@ -48,27 +48,20 @@ meets_on g spot p i e today last m =
 
 -- ---- two moves of exactly I, or one of the last crop-year month, which counts as two
 -- what a contract counts whose change is from the settlement before; i is its product's I
-abbrev pub count_of : ℕ → ℕ → Contract → Option ℕ → ℕ
-count_of p i c None = 0
-count_of p i c (Some before) = cond (eqb (distance c.settlement before) i) (cond (is_last_crop_month p c.month) 2 1) 0
+abbrev pub count_from : ℕ → ℕ → Contract → Option ℕ → ℕ
+count_from p i c None = 0
+count_from p i c (Some before) = cond (eqb (distance c.settlement before) i) (cond (is_last_crop_month p c.month) 2 1) 0
 
--- of n that can trigger, how many more can after a contract of a month
-unfoldable pub more_after : (ℕ → Bool) → ℕ → ℕ → ℕ
-more_after spot n month = cond (spot month) n (pred n)
+-- the same, from the last ended sheet
+unfoldable pub count_of : ℕ → ℕ → List Contract → Contract → ℕ
+count_of p i last c = count_from p i c (settlement_on last c.month)
 
-module _ (spot : ℕ → Bool) (p i : ℕ) (last : List Contract) where
-  -- what a contract counts where n more can trigger
-  unfoldable pub count_at : ℕ → Contract → ℕ
-  count_at n c = cond (spot c.month || eqb n 0) 0 (count_of p i c (settlement_on last c.month))
+-- the first N non-spot contracts of today
+abbrev pub first_in : TradeDate → ℕ → Held → List Contract
+first_in date p items = take (first_of p) (filter (λ (c : Contract). not (is_spot date c.month)) (entries_of items.today))
 
-  -- what the contracts of a sheet count, of which the first n non-spot ones can trigger
-  abbrev pub count_from : ℕ → List Contract → ℕ
-  count_from n [] = 0
-  count_from n (c ∷ s) = count_at n c + count_from (more_after spot n c.month) s
-
-abbrev pub are_enough_in : TradeDate → ℕ → Held → Bool
-are_enough_in date p items =
-    leb 2 (count_from (is_spot date) p items.limit.initial (entries_of items.last) (first_of p) (entries_of items.today))
+unfoldable pub are_enough_in : TradeDate → ℕ → Held → Bool
+are_enough_in date p items = leb 2 (sum_by (count_of p items.limit.initial (entries_of items.last)) (first_in date p items))
 
 -- ---- the same of what a book holds of a product
 abbrev pub suffice_in : Condition → TradeDate → ℕ → Held → Bool
