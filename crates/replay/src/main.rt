@@ -46,7 +46,7 @@ fn answer_all<R: BufRead, W: Write>(
     input: &mut R,
     output: &mut W,
 ) -> io::Result<()> {
-    let mut state = State::new();
+    let mut state = State::default();
     let mut line = Vec::new(alloc);
     // A proved loop has to end, so it counts up to a number that no input reaches.
     for _ in 0..u64::MAX {

@@ -3,17 +3,13 @@ use crate::answer::{Answer, Failure};
 use crate::call::Call;
 use book::Book;
 
-#[derive(Drop)]
+#[derive(Default, Drop)]
 pub struct State {
     // None before a founding.
     book: Option<Book>,
 }
 
 impl State {
-    pub fn new() -> State {
-        State { book: None }
-    }
-
     fn book(&self) -> Result<&Book, Failure> {
         self.book.as_ref().ok_or(Failure::NoBook)
     }

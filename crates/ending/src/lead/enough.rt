@@ -12,10 +12,11 @@ impl ProductMoves<'_> {
     fn count_of(&self, contract: &Contract) -> u32
         ensures { result ≡ count_of self.now.product self.now.items.now.limit.initial (entries_of self.now.items.now.last) contract.now }
     {
-        let Some(earlier) = self.items.last.find(contract.month) else {
-            return 0;
-        };
-        if contract.settlement.abs_diff(earlier) != self.items.limit.initial {
+        let change = self
+            .items
+            .last
+            .change_to(contract.month, contract.settlement);
+        if change != Some(self.items.limit.initial) {
             return 0;
         }
         if grain::is_last_crop_month(self.product, contract.month) {
