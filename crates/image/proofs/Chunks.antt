@@ -69,11 +69,3 @@ module _ {A : Type 0} (words : A → List ℕ) where
 
     pub chunks_back : (of : List ℕ → A) (n : ℕ) (l : List A) → length l ≡ n → Sized l → All (λ a. of (words a) ≡ a) l → chunks k of n (flat_map words l) ≡ l
     chunks_back of n l long e back = ap (λ m. chunks k of m (flat_map words l)) (sym long) ∙ chunks_flat of l e back
-
--- an element for each word
-pub chunks_single : (n : ℕ) (ws : List ℕ) → length ws ≡ n → chunks 1 (λ xs. get_or xs 0 0) n ws ≡ ws
-unfolding chunks
-chunks_single zero [] e = refl
-chunks_single zero (w ∷ ws) e = absurd (omega arith)
-chunks_single (suc n) [] e = absurd (omega arith)
-chunks_single (suc n) (w ∷ ws) e = let rest : length ws ≡ n = omega arith in ap (λ r. w ∷ r) (chunks_single n ws rest)

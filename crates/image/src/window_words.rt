@@ -7,7 +7,7 @@ ghost use Rattle.image.specs.Put.{WindowsPut};
 
 use crate::counts::count_word;
 use crate::places::WINDOWS_WORDS;
-use crate::words::{ToWords, put_all, read_all};
+use crate::words::{ToWords, put_all};
 use grain::{PRODUCT_COUNT, WINDOW_LENGTH};
 use std::array;
 use windows::Window;
@@ -25,24 +25,14 @@ impl ToWords for Window {
     }
 }
 
-fn window_of(size: u32, settlements: &[u32]) -> Window
-    requires { length settlements.now ≡ window_length }
-    ensures { result ≡ record { settlements = settlements.now; size = size } }
-{
-    Window {
-        settlements: read_all(settlements),
-        size: size as usize,
-    }
-}
-
 pub(crate) fn windows_in(words: &[u32]) -> [Window; PRODUCT_COUNT]
     requires { length words.now ≡ windows_words }
     ensures { result ≡ windows_in words.now }
 {
-    array::from_fn(|p| {
-        let at = PRODUCT_COUNT + WINDOW_LENGTH * p;
-        let past = at + WINDOW_LENGTH;
-        window_of(words[p], &words[at..past])
+    let (settlements, _) = words[PRODUCT_COUNT..].as_chunks::<WINDOW_LENGTH>();
+    array::from_fn(|p| Window {
+        settlements: settlements[p],
+        size: words[p] as usize,
     })
 }
 
