@@ -85,7 +85,7 @@ first_small p = go (ltb p 8) refl
         let past : length firsts ≤ p = ltb-false p 8 e in
         rw (get_or_past firsts p 0 past) (omega arith)
 
--- what the first N count is a number of the code's
+-- what the first N count fits a u32
 pub sum_fits : (p i : ℕ) (last s : List Contract) → sum_by (count_of p i last) (take (first_of p) s) < 2 ^ 32
 sum_fits p i last s =
     let f : Contract → ℕ = count_of p i last in

@@ -100,7 +100,7 @@ seen_next f lo hi m clear here q n k l h = ⊎_elim (λ same. rw same (here q k 
 abbrev pub Among : Book → ℕ → ℕ → ℕ → Type 0
 Among b lo hi n = (q : ℕ) × (lo ≤ q) × (q < hi) × Listed (entries_of (today_in b q)) n
 
--- a product whose sheet has a month is one of the book
+-- past the book's products no sheet has a month
 has_product : (b : Book) (q n : ℕ) → Listed (entries_of (today_in b q)) n → q < length b.products
 unfolding entries_of
 has_product b q n on =

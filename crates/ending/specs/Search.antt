@@ -60,6 +60,7 @@ count_of p i last c = count_from p i c (settlement_on last c.month)
 abbrev pub first_in : TradeDate → ℕ → Held → List Contract
 first_in date p items = take (first_of p) (filter (λ (c : Contract). not (is_spot date c.month)) (entries_of items.today))
 
+-- what they count is 2 or more
 unfoldable pub are_enough_in : TradeDate → ℕ → Held → Bool
 are_enough_in date p items = leb 2 (sum_by (count_of p items.limit.initial (entries_of items.last)) (first_in date p items))
 

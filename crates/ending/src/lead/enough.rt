@@ -7,7 +7,7 @@ use crate::moves::ProductMoves;
 use record::Contract;
 
 impl ProductMoves<'_> {
-    // What a contract within the first N counts.
+    // What a contract counts, if it is within the first N: 0 where it did not move by exactly I.
     #[tactic(auto, unfolding(crate::specs::Search::count_of))]
     fn count_of(&self, contract: &Contract) -> u32
         ensures { result ≡ count_of self.now.product self.now.items.now.limit.initial (entries_of self.now.items.now.last) contract.now }
