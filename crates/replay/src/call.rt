@@ -4,7 +4,7 @@ use grain::PRODUCT_COUNT;
 use record::Day;
 use std::alloc::Global;
 
-#[derive(Drop)]
+#[derive(Debug, Drop, PartialEq, Eq)]
 pub enum Call {
     Found(Founding),
     Open(Day),
@@ -56,7 +56,7 @@ fn day(words: &[u8]) -> Result<Day, ParseError> {
     })
 }
 
-#[derive(Drop)]
+#[derive(Debug, Drop, PartialEq, Eq)]
 pub struct Filing {
     pub product: u32,
     pub months: Vec<u32>,

@@ -3,7 +3,7 @@ use crate::answer::{Answer, Failure};
 use crate::call::Call;
 use book::Book;
 
-#[derive(Default, Drop)]
+#[derive(Debug, Default, Drop, PartialEq, Eq)]
 pub struct State {
     // None before a founding.
     book: Option<Book>,
