@@ -1,4 +1,3 @@
-pub mod Filled
 pub mod Numbers
 pub mod ProductsBefore
 pub mod Either

@@ -36,6 +36,6 @@ pub struct Book {
     pub products: [Product; PRODUCT_COUNT],
     // The last opened day. An image from C can hold any, which soundness then judges.
     pub opened: Option<Day>,
-    // It is open. A flag of its own, as the Record has it: the day stays the last opened one when it has ended.
+    // A day is open: the last opened one. A flag of its own, as the Record has it, since that day stays here when it has ended.
     pub is_open: bool,
 }

@@ -11,7 +11,7 @@ mod terms;
 
 pub use terms::Terms;
 
-// Every u32 is answered, as callers have them of an order.
+// The numbers of an order, as callers have them: every u32 is answered.
 pub fn check(b: &Book, product: u32, size: u32, month: u32, price: u32) -> Result<Verdict, Refusal>
     ensures { Checks b.now product size month price result }
 {

@@ -51,16 +51,12 @@ pub record Leaves (b z : Book) (es : List Event) : Type 0 where
   pub opened : z.opened ≡ b.opened
   pub is_open : z.is_open ≡ false
 
--- the moves and the event of a group as it is shown
-moves_are : (b : Book) (g : ℕ) (ps : List ℕ) → group_moves (today b) (view_group b g ps) ≡ moves_today b ps
-unfolding group_moves moves_of view_group
-moves_are b g ps = refl
-
+-- the event of a group as it is shown
 event_is : (b : Book) (g : ℕ) (ps : List ℕ)
     → group_event (view_common b) (view_group b g ps)
     ≡ event_of (conditions_of b.edition) (level_of (standing_in b g).expanded) (standing_in b g).marked (moves_today b ps)
-unfolding group_event view_group view_common
-event_is b g ps = ap (event_of (conditions_of b.edition) (level_of (standing_in b g).expanded) (standing_in b g).marked) (moves_are b g ps)
+unfolding group_event group_moves moves_of view_group view_common
+event_is b g ps = refl
 
 events_are : (b : Book) → map (group_event (view_common b)) (view_groups b 0 group_table) ≡ map (event_today b) all_groups
 events_are b =
@@ -76,13 +72,10 @@ group_after marks d e mss qs =
 group_after_lem : (b : Book) (g : ℕ)
     → end_group (view_common b) (view_group b g (products_of g))
     ≡ group_after (has_marks b) (today b) (event_today b g) (moves_today b (products_of g)) (map (view_product b) (products_of g))
-unfolding end_group view_group view_common
+unfolding end_group group_moves moves_of view_group view_common
 group_after_lem b g =
     let ps = products_of g in
-    let qs = map (view_product b) ps in
-    let shown = view_group b g ps in
-    ap (λ (e : Event). group_after (has_marks b) (today b) e (group_moves (today b) shown) qs) (event_is b g ps)
-    ∙ ap (λ (mss : List (List Move)). group_after (has_marks b) (today b) (event_today b g) mss qs) (moves_are b g ps)
+    ap (λ (e : Event). group_after (has_marks b) (today b) e (moves_today b ps) (map (view_product b) ps)) (event_is b g ps)
 
 level_of_lem : (e : Event) → level_of (is_expanded (level_after e)) ≡ level_after e
 level_of_lem Quiet = refl

@@ -1,4 +1,5 @@
--- What is written of a call that may change the book, for the one function that does it for all of them.
+-- What the one function that writes for all calls that may change the book leaves, whatever it is given to write.
+-- For that function alone: what each call promises is in Calls.antt.
 use Rattle.std.specs.Prelude.{ℕ, ◌≡◌, List, Result, Ok, Err}
 use Rattle.std.specs.Borrow.{Bor, MutBor}
 use Rattle.grain.specs.Refusals.{number_of}

@@ -1,4 +1,4 @@
--- Words as a list, each element of the same number of them.
+-- A part of some words, and a list read from words, each element from the same number of them.
 use Rattle.std.specs.Prelude.{ℕ, zero, suc, List, [], ◌∷◌, take, drop}
 
 -- n words from place a on

@@ -5,3 +5,4 @@ pub mod FullWindows
 pub mod Starts
 pub mod Renewals
 pub mod SeasonStarts
+pub mod Filled

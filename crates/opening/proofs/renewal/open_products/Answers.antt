@@ -1,7 +1,7 @@
 use Rattle.std.proofs.Common.{refl, false}
 use Rattle.grain.specs.Products.{product_count}
 use Rattle.book.specs.Book.{no_items}
-use Rattle.book.proofs.Filled.{filled_start, filled_next, filled_end, unfilled}
+use Rattle.opening.proofs.Filled.{filled_start, filled_next, filled_end, unfilled}
 use Rattle.book.proofs.Numbers.{values_are}
 use Rattle.opening.proofs.FullWindows.{given_where}
 use Rattle.opening.proofs.renewal.open_products.Goals as goal

@@ -2,7 +2,7 @@ use Rattle.std.proofs.Common.{false, get_or}
 use Rattle.grain.specs.Products.{product_count}
 use Rattle.windows.specs.Windows.{shown}
 use Rattle.book.specs.Book.{no_items}
-use Rattle.book.proofs.Filled.{Filled}
+use Rattle.opening.proofs.Filled.{Filled}
 use Rattle.opening.specs.Opens.{is_renewed_by, items_on}
 use Rattle.opening.proofs.renewal.open_products.Given as goal
 
