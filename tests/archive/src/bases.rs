@@ -32,9 +32,9 @@ const LONGEST_LIFE: usize = 120;
 /// More seeds than any base needs.
 const SEEDS: u64 = 1_000;
 
-/// Six by the edition of 2023, and of the others two by that of 2014; the last five have the most in them.
+/// Six under the edition of 2023, and of the others two under that of 2014; the last five have the most in them.
 pub fn bases() -> Vec<Base> {
-    let [old, new] = EDITIONS.map(Life::by);
+    let [old, new] = EDITIONS.map(Life::under);
     let mut random = Random::new(1);
     let first_day = opened(&new.fresh, first_day());
     let last_day = opened(&new.full, new.next);
@@ -53,7 +53,7 @@ pub fn bases() -> Vec<Base> {
     ]
 }
 
-/// A book by an edition, when it was fresh, once it was full, and on the day after.
+/// A book under an edition, when it was fresh, once it was full, and on the day after.
 struct Life {
     fresh: Book,
     full: Book,
@@ -63,7 +63,7 @@ struct Life {
 }
 
 impl Life {
-    fn by(edition: u32) -> Life {
+    fn under(edition: u32) -> Life {
         let fresh = Book::found(edition, LIMITS).expect("fit limits");
         let (full, next) = first_of_seeds(|random| live(random, &fresh, first_day()));
         let all_in = first_of_seeds(|random| all_in(random, &full, next));

@@ -38,7 +38,7 @@ pub fn compare(comparer: &mut Comparer, bases: &[Base], score: &mut Score) {
     }
     score.all("calls on images of each edition and of none", &failures);
     let rare = reached.judge(&EVENTS, |_, times| times > 0);
-    score.one("images reach every event by the edition in them", rare);
+    score.one("images reach every event under the edition in them", rare);
 }
 
 /// The image with another edition, and marked in this group alone.

@@ -25,10 +25,10 @@ pub const CHECK: &[u32] = &[100, 101, 102, 103, UNSOUND, 2, 5, 14, 8];
 /// What accepted openings and ends put in: whether a product got new limits, and a group's event.
 pub const OUTCOMES: [Range; 3] = [("renewed", &[0, 1]), EVENTS[0], EVENTS[1]];
 
-/// By the editions in their order; that of 2014 raises nothing.
+/// Under the editions in their order; that of 2014 raises nothing.
 pub const EVENTS: [Range; 2] = [
-    ("event by 2014", &[0, 1, 2, 3]),
-    ("event by 2023", &[0, 1, 2, 3, 4]),
+    ("event under 2014", &[0, 1, 2, 3]),
+    ("event under 2023", &[0, 1, 2, 3, 4]),
 ];
 
 pub const BROUGHT_BACK: &str = "brought back";
@@ -88,7 +88,7 @@ impl Reached {
                 .map(|&number| (number, self.times(what, number)));
             let counts: Vec<(u32, u64)> = counts.collect();
             let shown: Vec<String> = counts.iter().map(shown).collect();
-            println!("    {what:15} {}", shown.join(", "));
+            println!("    {what:16} {}", shown.join(", "));
             let few = counts
                 .iter()
                 .filter(|(number, times)| !is_enough(*number, *times));

@@ -80,7 +80,7 @@ fn compare(program: &Path, oracle: &Path, folder: &Path, edition: u32) -> io::Re
     let (ours, theirs) = in_turn(program, oracle, &history)?;
     let speed = |time: f64| history.calls as f64 / time;
     println!(
-        "{} calls of 36,160 days by the edition of {edition} with ten checks a day, \
+        "{} calls of 36,160 days under the edition of {edition} with ten checks a day, \
          median of {ROUNDS} runs in turn",
         history.calls
     );

@@ -7,7 +7,7 @@ use oracle::book::edition::EDITIONS;
 use oracle::testing::history::{days, scenario};
 
 const USAGE: &str = "usage: oracle_history days EDITION | oracle_history seed N
-days EDITION  every day from 2000 to 2098 with ten checks, no call refused, by the edition of 2014 or 2023
+days EDITION  every day from 2000 to 2098 with ten checks, no call refused, under the edition of 2014 or 2023
 seed N        about 2,000 calls drawn from N";
 
 const CHECKS_A_DAY: usize = 10;

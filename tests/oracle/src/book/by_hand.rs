@@ -57,7 +57,7 @@ pub fn open_book() -> Book {
     open_book_under(2023)
 }
 
-/// The same by an edition.
+/// The same under an edition.
 pub fn open_book_under(edition: u32) -> Book {
     let mut trial = Trial::under(edition, LIMITS);
     trial.open();
@@ -84,7 +84,7 @@ impl Trial {
         Trial::under(2023, limits)
     }
 
-    /// The same by an edition.
+    /// The same under an edition.
     pub fn under(edition: u32, limits: [u32; 8]) -> Trial {
         let months: Vec<Vec<u32>> = (0..8).map(|product| contracts(product, JULY, 10)).collect();
         let mut trial = Trial {

@@ -1,4 +1,4 @@
-//! What a group's moves make of it, by the edition of 2014: nothing is raised or marked.
+//! What a group's moves make of it, under the edition of 2014: nothing is raised or marked.
 
 use super::end::Event;
 use super::moves::{leading, Move};

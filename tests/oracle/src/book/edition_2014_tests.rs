@@ -1,4 +1,4 @@
-//! Ends by the edition of 2014, by hand: what two contracts trigger, what one does, what holds, and who leads.
+//! Ends under the edition of 2014, by hand: what two contracts trigger, what one does, what holds, and who leads.
 
 use super::by_hand::{
     contract, contracts, Change, Trial, CHICAGO_WHEAT, CORN, EXPANDED, JULY, KC_WHEAT, LIMITS,
@@ -26,7 +26,7 @@ const CROP_PLACES: [[usize; 2]; 8] = [
 ];
 
 /// A book after days on which the largest sheets settled.
-fn by_edition(edition: u32) -> Trial {
+fn under(edition: u32) -> Trial {
     let mut trial = Trial::under(edition, LIMITS);
     trial.months = (0..8)
         .map(|product| contracts(product, JULY, LARGEST_SHEET))
@@ -37,7 +37,7 @@ fn by_edition(edition: u32) -> Trial {
 }
 
 fn trial() -> Trial {
-    by_edition(2014)
+    under(2014)
 }
 
 /// A group's event after a day with these changes.
@@ -59,7 +59,7 @@ fn tick(product: usize) -> i64 {
 
 /// A group at the expanded level, by the crop-year month of its first product.
 fn expanded_group(group: usize, edition: u32) -> Trial {
-    let mut trial = by_edition(edition);
+    let mut trial = under(edition);
     let product = GROUPS[group][0];
     trial.day(&[(product, CROP_PLACES[product][0], initial(product))]);
     assert_eq!(trial.book.standings[group], EXPANDED);
@@ -422,7 +422,7 @@ fn a_season_starts_narrow_where_it_gives_new_limits() {
 #[test]
 fn the_edition_outlives_every_call() {
     for edition in [2014, 2023] {
-        let mut trial = by_edition(edition);
+        let mut trial = under(edition);
         trial.open();
         assert_eq!(trial.book.edition, edition);
         trial.rest_of_day(&[(CORN, 1, 200)]);

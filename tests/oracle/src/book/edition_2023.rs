@@ -1,4 +1,4 @@
-//! What a group's moves make of it, by the edition of 2023.
+//! What a group's moves make of it, under the edition of 2023.
 
 use super::end::{Event, Outcome};
 use super::moves::{leading, Move};

@@ -47,7 +47,7 @@ mod tests {
     }
 
     #[test]
-    fn the_floors_found_a_book_by_either_edition() {
+    fn the_floors_found_a_book_under_either_edition() {
         for edition in EDITIONS {
             let book = Book::found(edition, FLOORS).expect("fit limits");
             let expanded: Vec<u32> = book.limits.iter().map(|limits| limits.expanded).collect();

@@ -71,7 +71,7 @@ pub struct Limits {
 /// Every field can hold damage, so that soundness is a question.
 #[derive(Clone, Debug, PartialEq, Eq)]
 pub struct Book {
-    /// The year of the edition by which the book was founded.
+    /// The year of the edition under which the book was founded.
     pub edition: u32,
     pub is_open: bool,
     /// Year, month and day of the last opened day.

@@ -41,7 +41,7 @@ impl Move {
         self.size == self.limits.expanded
     }
 
-    /// Whether it triggers, alone or, by the edition of 2014, with another.
+    /// Whether it triggers, alone or, under the edition of 2014, with another.
     pub fn can_trigger(&self) -> bool {
         self.is_first() && self.is_by_initial()
     }

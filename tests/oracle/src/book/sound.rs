@@ -30,7 +30,7 @@ impl Book {
         self.last_ended.iter().any(Option::is_some)
     }
 
-    /// A true edition, and a mark only by one that has them, on an expanded group.
+    /// A true edition, and a mark only under one that has them, on an expanded group.
     fn has_sound_edition_and_marks(&self) -> bool {
         let Some(edition) = Edition::of(self.edition) else {
             return false;

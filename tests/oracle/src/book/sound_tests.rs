@@ -182,7 +182,7 @@ fn odd_but_sound() {
             *book = Book::found(2023, LIMITS).expect("fit limits");
             book.standings[0] = MARKED;
         }),
-        ("expanded by 2014", |book| {
+        ("expanded under 2014", |book| {
             book.edition = 2014;
             book.standings[0] = EXPANDED;
         }),

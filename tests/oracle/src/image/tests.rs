@@ -165,7 +165,7 @@ fn an_image_has_an_edition_and_2014_no_mark() {
     }
 }
 
-/// One Corn contract at I, which triggers by the edition of 2023 alone.
+/// One Corn contract at I, which triggers under the edition of 2023 alone.
 #[test]
 fn an_image_follows_the_rule_of_the_edition_in_it() {
     let mut trial = Trial::under(2014, LIMITS);

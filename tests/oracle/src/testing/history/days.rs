@@ -27,7 +27,7 @@ struct Course {
     book: Option<Book>,
 }
 
-/// The history of all 36,160 days by an edition, with so many checks a day from the second on.
+/// The history of all 36,160 days under an edition, with so many checks a day from the second on.
 pub fn all_days(edition: u32, checks: usize) -> Vec<u8> {
     days(edition, checks, calendar().days.len())
 }

@@ -25,7 +25,7 @@ const TRUE_DATES: usize = 99 * 365 + 25;
 const OPENED: &str = "opened 0 0 0 0 0 0 0 0";
 const REFUSED: &str = "refused 3";
 
-/// Three openings of each date, each after a founding by an edition: six lines a date.
+/// Three openings of each date, each after a founding under an edition: six lines a date.
 pub fn history(edition: u32) -> Vec<u8> {
     let limits = PRODUCTS.each_ref().map(|product| product.floor);
     let founding = text::line(&Call::Found(FoundCall { edition, limits }));

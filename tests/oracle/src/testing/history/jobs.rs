@@ -15,9 +15,9 @@ use crate::testing::program::{Delivery, Program};
 
 #[derive(Clone, Debug)]
 pub enum Job {
-    /// Every day from 2000 to 2098, by an edition.
+    /// Every day from 2000 to 2098, under an edition.
     AllDays(u32),
-    /// Every year, month and day from 1999 to 2099, true or false, by an edition.
+    /// Every year, month and day from 1999 to 2099, true or false, under an edition.
     EveryDate(u32),
     /// A generated history, by its seed.
     Generated(u64),
@@ -106,8 +106,8 @@ impl Job {
 
     pub fn name(&self) -> String {
         match self {
-            Job::AllDays(edition) => format!("{ALL_DAYS} by the edition of {edition}"),
-            Job::EveryDate(edition) => format!("{EVERY_DATE} by the edition of {edition}"),
+            Job::AllDays(edition) => format!("{ALL_DAYS} under the edition of {edition}"),
+            Job::EveryDate(edition) => format!("{EVERY_DATE} under the edition of {edition}"),
             Job::Generated(seed) | Job::SentAgain(seed) => format!("seed {seed}"),
             Job::Example(path) => format!("{EXAMPLE} {}", path.display()),
             Job::Garbage { first, count } => format!("{count} seeds from {first} on"),

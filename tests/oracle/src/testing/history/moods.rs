@@ -104,7 +104,7 @@ pub fn any(random: &mut Random, edition: Edition, level: Level) -> Mood {
     }
 }
 
-/// By the edition of 2014 it matters which contracts of one product move together.
+/// Under the edition of 2014 it matters which contracts of one product move together.
 fn plotted(random: &mut Random) -> Mood {
     let background = random.pick(&[Background::Still, Background::Small, Background::Small]);
     match random.below(8) {

@@ -1,5 +1,5 @@
-//! Plots: which contracts of a product move together by I, or nearly do, so that it triggers by the edition of 2014 or just
-//! does not.
+//! Plots: which contracts of a product move together by I, or nearly do, so that it triggers under the edition of 2014 or
+//! just does not.
 
 use super::moods::{Size, Which};
 

@@ -14,7 +14,7 @@ use crate::history::answer;
 use crate::history::call::{Call, SheetCall};
 use crate::testing::random::Random;
 
-/// Each temper twice by each edition.
+/// Each temper twice under each edition.
 pub const PAIRS_A_GROUP: u64 = 4 * temper::TURNS;
 
 /// Of so many pairs one is led into a season that gives its group new limits, and another into a season that gives them
@@ -36,7 +36,7 @@ pub struct Side {
 
 pub struct Pair {
     pub group: usize,
-    /// By which both sides are founded.
+    /// Under which both sides are founded.
     pub edition: u32,
     pub sides: [Side; 2],
 }
@@ -319,7 +319,7 @@ mod tests {
     /// In so many pairs of each group a thing is reached, so that no single draw decides whether it is.
     const SEVERAL: usize = 3;
 
-    /// By either edition.
+    /// Under either edition.
     const WANTED: [(Kind, &str); 8] = [
         (Kind::Ended, "quiet"),
         (Kind::Ended, "triggered"),
@@ -378,8 +378,8 @@ mod tests {
     const RAISED: (Kind, &str) = (Kind::Ended, "raised");
 
     fn assert_reached(group: usize, year: u32, wanted: &[(Kind, &str)]) {
-        let is_by_year = |pair: &&Pair| pair.edition == year;
-        let pairs = pairs(group).iter().filter(is_by_year).map(reached);
+        let is_under_it = |pair: &&Pair| pair.edition == year;
+        let pairs = pairs(group).iter().filter(is_under_it).map(reached);
         let pairs: Vec<Vec<(Kind, String)>> = pairs.collect();
         for (kind, word) in wanted {
             let wanted = (*kind, word.to_string());
@@ -402,7 +402,7 @@ mod tests {
     }
 
     #[test]
-    fn both_sides_are_founded_by_the_pairs_edition() {
+    fn both_sides_are_founded_under_the_pairs_edition() {
         for Pair { edition, sides, .. } in pairs(0) {
             let founding = format!("found {edition} ");
             let ending = format!(" edition={edition}");

@@ -23,7 +23,7 @@ pub fn fit_limits(random: &mut Random) -> [u32; 8] {
 /// Numbers that are no edition, on either side of each that is.
 pub const FALSE_EDITIONS: [u32; 6] = [0, 2013, 2015, 2022, 2024, u32::MAX];
 
-/// A founding by an unknown edition, with unfit limits, or both.
+/// A founding under an unknown edition, with unfit limits, or both.
 pub fn false_founding(random: &mut Random) -> Call {
     let fit = fit_limits(random);
     let unfit = unfit_limits(random);

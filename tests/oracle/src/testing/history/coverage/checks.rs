@@ -35,7 +35,7 @@ const WANTED: [&str; 44] = [
     "check: within, initial level",
     "check: within, expanded level",
     "check: within by E but not by I",
-    "check: within by E but not by I by 2014",
+    "check: within by E but not by I under 2014",
     "check: within by E but not by I, kept over a season",
     "check: below in a group brought back, within E",
     "check: above in a group brought back, within E",
@@ -218,7 +218,7 @@ fn observe_between(coverage: &mut Coverage, book: &Book, number: usize, verdict:
     coverage.count_if(verdict == "within", "check: within by E but not by I");
     coverage.count_if(
         verdict == "within" && book.edition == 2014,
-        "check: within by E but not by I by 2014",
+        "check: within by E but not by I under 2014",
     );
     if verdict == "within" && is_widened_by_others(coverage, book, number) {
         coverage.count(widened_key(number));

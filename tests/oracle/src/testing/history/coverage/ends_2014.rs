@@ -1,4 +1,4 @@
-//! What ends by the edition of 2014 reached: each event, and either side of what triggers and holds.
+//! What ends under the edition of 2014 reached: each event, and either side of what triggers and holds.
 
 use super::ends::changed_before;
 use super::event::{prefix, Event};

@@ -10,7 +10,7 @@ pub type Kind<'a> = (Edition, &'a str);
 /// What the keys of an edition's ends begin with.
 pub fn prefix(edition: Edition) -> &'static str {
     match edition {
-        Edition::Of2014 => "end by 2014",
+        Edition::Of2014 => "end under 2014",
         Edition::Of2023 => "end",
     }
 }

@@ -15,7 +15,7 @@ const WANTED: [&str; 4] = [
     "found: refused 13 with a book",
 ];
 
-/// What there was before: no book, or one by an edition.
+/// What there was before: no book, or one under an edition.
 const BEFORE: [Option<u32>; 3] = [None, Some(2014), Some(2023)];
 
 pub fn wanted() -> Vec<String> {
@@ -35,16 +35,16 @@ pub fn wanted() -> Vec<String> {
 fn over(before: Option<u32>) -> String {
     match before {
         None => "without a book".to_string(),
-        Some(edition) => format!("over a book by {edition}"),
+        Some(edition) => format!("over a book under {edition}"),
     }
 }
 
 fn founded_key(edition: u32, before: Option<u32>) -> String {
-    format!("found: founded by {edition} {}", over(before))
+    format!("found: founded under {edition} {}", over(before))
 }
 
 fn unfit_key(edition: u32, before: Option<u32>) -> String {
-    format!("found: refused 13 by {edition} {}", over(before))
+    format!("found: refused 13 under {edition} {}", over(before))
 }
 
 fn unknown_key(edition: u32, is_unfit: bool) -> String {

@@ -131,7 +131,7 @@ impl Coverage {
 }
 
 fn book_key(edition: u32) -> String {
-    format!("book: line by {edition}")
+    format!("book: line under {edition}")
 }
 
 const OWN: [&str; 13] = [

@@ -44,7 +44,7 @@ const WANTED: [&str; 39] = [
     "sheet: filed at the limit, up",
     "sheet: filed at the limit, down",
     "sheet: filed at the expanded limit",
-    "sheet: filed at the expanded limit by 2014",
+    "sheet: filed at the expanded limit under 2014",
     "sheet: filed with a spot contract beyond the limit",
     "sheet: filed with a contract that enters at the far end",
     "sheet: filed with a contract that enters between others",
@@ -345,7 +345,7 @@ fn observe_moves(coverage: &mut Coverage, call: &SheetCall, book: &Book) {
         coverage.count_if(is_at_e, "sheet: filed at the expanded limit");
         coverage.count_if(
             is_at_e && book.edition == 2014,
-            "sheet: filed at the expanded limit by 2014",
+            "sheet: filed at the expanded limit under 2014",
         );
         if size == limit && is_widened_by_others(coverage, book, number) {
             coverage.count(widened_key(number, EDGES[0], is_up));
