@@ -134,7 +134,9 @@ impl Through<'_> {
             Call::Open(_) => image.new_limits().map(answer::opened),
             Call::Sheet(_) => Some(FILED.to_string()),
             Call::End => image.last_events().map(answer::ended),
-            _ => None,
+            Call::Check(_) | Call::Bare(_) | Call::Book => {
+                panic!("{call:?} returns no such number")
+            }
         };
         line.unwrap_or_else(|| "accepted, but with words that are no answer".to_string())
     }

@@ -1,6 +1,6 @@
 //! The answer to a call, as a line.
 
-use super::call::{self, Call};
+use super::call::{self, Call, FoundCall, SheetCall};
 use super::show;
 use crate::bare::{self, Order};
 use crate::book::end::Event;
@@ -27,32 +27,41 @@ pub fn answer_line(book: &mut Option<Book>, line: &[u8]) -> Option<String> {
 
 /// Answers a call on a book, if one was founded.
 pub fn answer(book: &mut Option<Book>, call: &Call) -> String {
-    let outcome = match (call, book.as_mut()) {
-        (Call::Found(call), _) => Book::found(call.edition, call.limits).map(|founded| {
-            *book = Some(founded);
-            FOUNDED.to_string()
+    let outcome = match call {
+        Call::Found(call) => found(book, call),
+        Call::Open([year, month, day, left]) => on(book, |book| {
+            book.open(*year, *month, *day, *left).map(opened)
         }),
-        (Call::Bare(numbers), _) => bare::check(&Order::from(*numbers)).map(verdict),
-        (_, None) => Ok(NO_BOOK.to_string()),
-        (call, Some(book)) => answer_of(book, call),
+        Call::Sheet(sheet) => on(book, |book| file(book, sheet)),
+        Call::End => on(book, |book| book.end().map(ended)),
+        Call::Check([product, size, month, price]) => on(book, |book| {
+            book.check(*product, *size, *month, *price).map(verdict)
+        }),
+        Call::Bare(numbers) => bare::check(&Order::from(*numbers)).map(verdict),
+        Call::Book => on(book, |book| Ok(show::book(book))),
     };
     outcome.unwrap_or_else(|refusal| refused(refusal.number()))
 }
 
+fn found(book: &mut Option<Book>, call: &FoundCall) -> Result<String, Refusal> {
+    *book = Some(Book::found(call.edition, call.limits)?);
+    Ok(FOUNDED.to_string())
+}
+
 /// Answers a call that needs a book.
-fn answer_of(book: &mut Book, call: &Call) -> Result<String, Refusal> {
-    match call {
-        Call::Open([year, month, day, left]) => Ok(opened(book.open(*year, *month, *day, *left)?)),
-        Call::Sheet(sheet) => {
-            book.file(sheet.product, &sheet.months, &sheet.settlements)?;
-            Ok(FILED.to_string())
-        }
-        Call::End => Ok(ended(book.end()?)),
-        Call::Check([product, size, month, price]) => {
-            Ok(verdict(book.check(*product, *size, *month, *price)?))
-        }
-        _ => Ok(show::book(book)),
+fn on(
+    book: &mut Option<Book>,
+    call: impl FnOnce(&mut Book) -> Result<String, Refusal>,
+) -> Result<String, Refusal> {
+    match book {
+        Some(book) => call(book),
+        None => Ok(NO_BOOK.to_string()),
     }
+}
+
+fn file(book: &mut Book, call: &SheetCall) -> Result<String, Refusal> {
+    book.file(call.product, &call.months, &call.settlements)?;
+    Ok(FILED.to_string())
 }
 
 /// The line of an accepted opening.

@@ -38,7 +38,16 @@ pub struct Seen<'a> {
     pub after: &'a Book,
 }
 
-impl Seen<'_> {
+impl<'a> Seen<'a> {
+    /// None where there was no book.
+    fn new(before: Option<&'a Book>, answer: &'a str, after: Option<&'a Book>) -> Option<Seen<'a>> {
+        Some(Seen {
+            before: before?,
+            answer,
+            after: after?,
+        })
+    }
+
     /// The number of the refusal, if the call was refused.
     pub fn refusal(&self) -> Option<u32> {
         refusal(self.answer)
@@ -87,25 +96,15 @@ impl Coverage {
         answer: &str,
         after: Option<&Book>,
     ) {
-        match call {
-            Call::Found(call) => return foundings::observe(self, call, before, answer),
-            Call::Bare(numbers) => return checks::observe_bare(self, numbers, answer),
-            _ => {}
-        }
-        let (Some(before), Some(after)) = (before, after) else {
-            return self.count("format: no book");
-        };
-        let seen = Seen {
-            before,
-            answer,
-            after,
-        };
-        match call {
-            Call::Open(numbers) => openings::observe(self, numbers, &seen),
-            Call::Sheet(sheet) => sheets::observe(self, sheet, &seen),
-            Call::End => ends::observe(self, &seen),
-            Call::Check(numbers) => checks::observe(self, numbers, &seen),
-            _ => self.observe_book(before),
+        match (call, Seen::new(before, answer, after)) {
+            (Call::Found(call), _) => foundings::observe(self, call, before, answer),
+            (Call::Bare(numbers), _) => checks::observe_bare(self, numbers, answer),
+            (_, None) => self.count("format: no book"),
+            (Call::Open(numbers), Some(seen)) => openings::observe(self, numbers, &seen),
+            (Call::Sheet(sheet), Some(seen)) => sheets::observe(self, sheet, &seen),
+            (Call::End, Some(seen)) => ends::observe(self, &seen),
+            (Call::Check(numbers), Some(seen)) => checks::observe(self, numbers, &seen),
+            (Call::Book, Some(seen)) => self.observe_book(seen.before),
         }
     }
 
