@@ -190,7 +190,7 @@ fn observe_own(coverage: &mut Coverage, seen: &Seen, event: &Event) {
         products.filter(move |&other| other != product)
     };
     let is_marked = seen.after.standings[event.group].marked;
-    for one in event.moves {
+    for one in &event.moves {
         let product = one.contract.product;
         let is_others_i = others(product).any(|other| one.size == limits[other].initial);
         let is_others_e = others(product).any(|other| one.size == limits[other].expanded);
@@ -213,7 +213,7 @@ pub fn observe_day(coverage: &mut Coverage, events: &[Event]) {
             coverage.count(beside_key(triggered.group, other.group));
         }
     }
-    let moves = events.iter().flat_map(|event| event.moves);
+    let moves = events.iter().flat_map(|event| &event.moves);
     coverage.last_end = LastEnd::default();
     for one in moves {
         let product = one.contract.product;

@@ -1,6 +1,6 @@
 //! What ends reached: events with their leads and edges, and windows.
 
-use super::event::Event;
+use super::event::{self, Event};
 use super::seasons::Turn;
 use super::{coupled, ends_2014, Coverage, Seen};
 use crate::book::edition::Edition;
@@ -81,19 +81,9 @@ pub fn observe(coverage: &mut Coverage, seen: &Seen) {
     let (date, left) = seen.after.last_opened().expect("the day ended");
     let is_first = seen.before.last_ended[0].is_none();
     coverage.count_if(is_first, "end: first day");
-    let moves: [Vec<Move>; GROUP_COUNT] =
-        std::array::from_fn(|group| seen.before.moves(group, date, left));
-    let edition = Edition::of(seen.before.edition).expect("the day ended");
-    let words = seen.answer.split(' ').skip(1).zip(&moves).enumerate();
-    let events = words.map(|(group, (word, moves))| Event {
-        edition,
-        group,
-        word,
-        moves,
-    });
-    let events: Vec<Event> = events.collect();
+    let events = event::of(seen);
     for event in &events {
-        match edition {
+        match event.edition {
             Edition::Of2014 => ends_2014::observe(coverage, seen.before, event),
             Edition::Of2023 => observe_event(coverage, seen, event),
         }
@@ -135,7 +125,7 @@ fn observe_event(coverage: &mut Coverage, seen: &Seen, event: &Event) {
 
 /// What the first days after a change of season made of a group.
 fn observe_turn(coverage: &mut Coverage, seen: &Seen, event: &Event) {
-    let &Event { group, moves, .. } = event;
+    let (group, moves) = (event.group, &event.moves);
     match (coverage.turns[group], event.name()) {
         (Turn::KeptNext, "raised") => {
             coverage.count("end: raised by a mark kept into the next season, no new limits");
@@ -160,7 +150,7 @@ fn observe_turn(coverage: &mut Coverage, seen: &Seen, event: &Event) {
 }
 
 fn observe_edges(coverage: &mut Coverage, event: &Event) {
-    let &Event { group, moves, .. } = event;
+    let (group, moves) = (event.group, &event.moves);
     let tick = |one: &Move| PRODUCTS[one.contract.product].standard_tick;
     let below = moves
         .iter()

@@ -125,7 +125,7 @@ pub fn observe(coverage: &mut Coverage, book: &Book, event: &Event) {
     coverage.count(group_key(event.group, event.name()));
     let owns = GROUPS[event.group]
         .iter()
-        .map(|&product| Own::new(product, event.moves));
+        .map(|&product| Own::new(product, &event.moves));
     let owns: Vec<Own> = owns.collect();
     match event.name() {
         "quiet" => {
@@ -247,7 +247,7 @@ fn observe_triggered(coverage: &mut Coverage, book: &Book, event: &Event, owns: 
     let triggers = |own: &&Own| {
         own.first
             .iter()
-            .any(|one| edition_2014::triggers(event.moves, one))
+            .any(|one| edition_2014::triggers(&event.moves, one))
     };
     let mut triggering = owns.iter().filter(triggers);
     if let (Some(own), None) = (triggering.next(), triggering.next()) {

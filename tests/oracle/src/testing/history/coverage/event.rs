@@ -1,5 +1,6 @@
 //! A group's event at an end, read from the answer.
 
+use super::Seen;
 use crate::book::edition::Edition;
 use crate::book::edition_2014;
 use crate::book::moves::{Contract, Move};
@@ -20,7 +21,21 @@ pub struct Event<'a> {
     pub edition: Edition,
     pub group: usize,
     pub word: &'a str,
-    pub moves: &'a [Move],
+    pub moves: Vec<Move>,
+}
+
+/// The events of an accepted end, group by group.
+pub fn of<'a>(seen: &Seen<'a>) -> Vec<Event<'a>> {
+    let (date, left) = seen.after.last_opened().expect("the day ended");
+    let edition = Edition::of(seen.before.edition).expect("the day ended");
+    let words = seen.answer.split(' ').skip(1).enumerate();
+    let event = |(group, word)| Event {
+        edition,
+        group,
+        word,
+        moves: seen.before.moves(group, date, left),
+    };
+    words.map(event).collect()
 }
 
 impl Event<'_> {
@@ -46,7 +61,7 @@ impl Event<'_> {
     /// The contracts that meet the event's condition.
     pub fn met(&self) -> Vec<Contract> {
         let meets = |one: &&Move| match (self.edition, self.name()) {
-            (Edition::Of2014, "triggered") => edition_2014::triggers(self.moves, one),
+            (Edition::Of2014, "triggered") => edition_2014::triggers(&self.moves, one),
             (Edition::Of2023, "triggered") => one.can_trigger(),
             (Edition::Of2023, "held") => one.size >= one.limits.initial,
             (_, "held" | "raised") => one.is_by_expanded(),
