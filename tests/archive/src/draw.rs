@@ -11,8 +11,8 @@ use oracle::testing::history::{false_openings, faults, pace, stray, temper};
 use oracle::testing::random::Random;
 
 /// A founding that is accepted and one that is not, then an opening, a sheet and an end.
-pub fn changes(random: &mut Random, book: &Book) -> [Call; 5] {
-    [
+pub fn changes(random: &mut Random, book: &Book) -> Vec<Call> {
+    vec![
         founding(random),
         stray::false_founding(random),
         opening(random, book),

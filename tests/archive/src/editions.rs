@@ -10,7 +10,7 @@ use oracle::testing::random::Random;
 use oracle::testing::score::Score;
 
 use crate::bases::Base;
-use crate::compare::Comparer;
+use crate::compare::{Compared, Comparer};
 use crate::draw;
 use crate::reached::{Reached, EVENTS, UNSOUND};
 
@@ -32,7 +32,7 @@ pub fn compare(comparer: &mut Comparer, bases: &[Base], score: &mut Score) {
                 let is_sound = edition == 2023 || edition == 2014 && marked.is_none();
                 let calls = calls(comparer, &mut random, base, &image, is_sound, &mut reached);
                 let named = |failure| format!("{edition}, marked {marked:?}, {failure}");
-                failures.extend(calls.map(|failure| failure.map(named)));
+                failures.extend(calls.into_iter().map(|failure| failure.map(named)));
             }
         }
     }
@@ -52,7 +52,7 @@ fn changed(image: &Image, edition: u32, marked: Option<usize>) -> Image {
     image
 }
 
-/// Every call that may change an image, and a check: refused with 1 where the image is unsound, and nowhere else.
+/// Every call that may change an image, and a check.
 fn calls(
     comparer: &mut Comparer,
     random: &mut Random,
@@ -60,29 +60,34 @@ fn calls(
     image: &Image,
     is_sound: bool,
     reached: &mut Reached,
-) -> [Option<String>; 6] {
+) -> Vec<Option<String>> {
+    let named = |call: String, failure: Option<String>| {
+        let failure = failure?;
+        Some(format!("{call} on {}: {failure}", base.name))
+    };
     let order = draw::order(random, &base.book);
     let (checked, _) = comparer.check(image, order);
-    let changes = draw::changes(random, &base.book).map(|call| {
+    let mut failures = vec![named(
+        format!("check {order:?}"),
+        failure(checked, is_sound),
+    )];
+    for call in draw::changes(random, &base.book) {
         let (compared, after) = comparer.change(image, &call);
         if call == Call::End && compared.number == ACCEPTED {
             reached.count_events(&after);
         }
-        (
-            format!("{call:?}"),
-            matches!(call, Call::Found(_)),
-            compared,
-        )
-    });
-    let mut all = changes
-        .into_iter()
-        .chain([(format!("check {order:?}"), false, checked)]);
-    [(); 6].map(|()| {
-        let (call, is_founding, compared) = all.next().expect("six calls are made");
-        let is_refused = compared.number == UNSOUND;
-        let is_right = is_founding || is_refused != is_sound;
-        let wrong = (!is_right).then(|| format!("returns {}", compared.number));
-        let failure = compared.difference.or(wrong)?;
-        Some(format!("{call} on {}: {failure}", base.name))
-    })
+        let failure = match call {
+            Call::Found(_) => compared.difference,
+            _ => failure(compared, is_sound),
+        };
+        failures.push(named(format!("{call:?}"), failure));
+    }
+    failures
+}
+
+/// A call that looks at the book is refused with 1 where the image is unsound, and nowhere else.
+fn failure(compared: Compared, is_sound: bool) -> Option<String> {
+    let is_right = (compared.number == UNSOUND) != is_sound;
+    let wrong = (!is_right).then(|| format!("returns {}", compared.number));
+    compared.difference.or(wrong)
 }

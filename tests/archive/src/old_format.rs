@@ -56,21 +56,23 @@ fn named(base: &Base, call: &str, failure: Option<String>) -> Option<String> {
 /// Calls that the base would often accept, on an image that every call but a founding refuses.
 fn calls_on(comparer: &mut Comparer, random: &mut Random, base: &Base, image: &Image) -> Failures {
     let refused = |compared: Compared| compared.difference.or(not_refused(compared.number));
-    let changes = draw::changes(random, &base.book).map(|call| {
+    let change = |call: Call| {
         let (compared, _) = comparer.change(image, &call);
         let failure = match call {
             Call::Found(_) => compared.difference,
             _ => refused(compared),
         };
         named(base, &format!("{call:?}"), failure)
-    });
+    };
+    let changes = draw::changes(random, &base.book);
+    let mut failures: Failures = changes.into_iter().map(change).collect();
     let order = draw::order(random, &base.book);
     let (checked, _) = comparer.check(image, order);
     let mut tally = draw::sound_tally(random);
     let tallied = comparer.tallied(&mut tally, image, order);
     let checks = [("check", checked), ("tallied check", tallied)];
-    let checks = checks.map(|(call, compared)| named(base, call, refused(compared)));
-    changes.into_iter().chain(checks).collect()
+    failures.extend(checks.map(|(call, compared)| named(base, call, refused(compared))));
+    failures
 }
 
 /// Where the image of an old program lies, at the end of its memory.
@@ -91,13 +93,15 @@ impl OldImage<'_> {
 
     fn calls(&mut self, random: &mut Random, base: &Base) -> Failures {
         let words = self.format.lay_out(&base.image);
-        let changes = draw::changes(random, &base.book).map(|call| {
+        let change = |call: Call| {
             let failure = match call {
                 Call::Found(founding) => self.found(&words, founding),
                 _ => self.refused(&words, |archive, image| archive.call(image, &call)),
             };
             named(base, &format!("{call:?}"), failure)
-        });
+        };
+        let changes = draw::changes(random, &base.book);
+        let mut failures: Failures = changes.into_iter().map(change).collect();
         let order = draw::order(random, &base.book);
         let mut tally = draw::sound_tally(random);
         let checks = [
@@ -107,8 +111,8 @@ impl OldImage<'_> {
                 archive::tallied_check(&mut tally, image, order)
             }),
         ];
-        let checks = checks.map(|failure| named(base, "a check", failure));
-        changes.into_iter().chain(checks).collect()
+        failures.extend(checks.map(|failure| named(base, "a check", failure)));
+        failures
     }
 
     /// The number that a call on the words returns, and the words after it.
