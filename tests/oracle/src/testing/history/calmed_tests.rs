@@ -3,7 +3,8 @@
 use std::cmp::Ordering;
 
 use super::compare::lines;
-use super::side_by_side::{pairs, Pair};
+use super::side_by_side::tests::pairs;
+use super::side_by_side::Pair;
 use crate::book::{Book, GROUPS, PRODUCT_COUNT};
 use crate::history::answer;
 use crate::history::call::{self, Call, SheetCall};

@@ -1,0 +1,234 @@
+//! What this implementation makes of the pairs, and what they reach.
+
+use std::sync::OnceLock;
+
+use super::*;
+use crate::book::groups::COUPLED;
+use crate::book::{Level, Standing, GROUP_COUNT};
+use crate::history::replay::answers;
+use crate::refusal::Refusal;
+
+/// All pairs of a group, which are drawn once for all tests.
+pub fn pairs(group: usize) -> &'static [Pair] {
+    static PAIRS: [OnceLock<Vec<Pair>>; GROUP_COUNT] = [const { OnceLock::new() }; GROUP_COUNT];
+    PAIRS[group].get_or_init(|| (0..PAIRS_A_GROUP).map(|seed| pair(group, seed)).collect())
+}
+
+#[test]
+fn this_implementation_keeps_groups_apart() {
+    for group in 0..GROUP_COUNT {
+        for pair in pairs(group) {
+            let outputs = pair.sides.each_ref().map(|side| answers(&side.text));
+            assert_ne!(outputs[0], outputs[1]);
+            assert_eq!(pair.difference([&outputs[0], &outputs[1]]), None);
+            let refused = String::from_utf8_lossy(&outputs[0]).contains("refused");
+            assert!(refused, "refused calls are among them");
+        }
+    }
+}
+
+/// In so many pairs of each group a thing is reached, so that no single draw decides whether it is.
+const SEVERAL: usize = 3;
+
+/// Under either edition.
+const WANTED: [(Kind, &str); 8] = [
+    (Kind::Ended, "quiet"),
+    (Kind::Ended, "triggered"),
+    (Kind::Ended, "held"),
+    (Kind::Ended, "reverted"),
+    (Kind::Check, "free"),
+    (Kind::Check, "within"),
+    (Kind::Check, "below"),
+    (Kind::Check, "above"),
+];
+
+/// The group's parts of the answers on the first side.
+fn parts(pair: &Pair) -> Vec<(Kind, String)> {
+    let side = &pair.sides[0];
+    let answers = answers(&side.text);
+    let answers = lines(&answers);
+    let part_of = |probe: &(usize, Kind)| {
+        let part = pair.part(&answers, probe);
+        (probe.1, part.expect("nothing agreed is refused"))
+    };
+    side.probes.iter().map(part_of).collect()
+}
+
+/// The kinds of answers that the group got on the first side, without contracts and spans.
+fn reached(pair: &Pair) -> Vec<(Kind, String)> {
+    let word_of = |(kind, part): (Kind, String)| {
+        let word = part.split(':').next().unwrap_or_default();
+        (kind, word.to_string())
+    };
+    parts(pair).into_iter().map(word_of).collect()
+}
+
+/// The products that led an event of the group.
+fn leads(pair: &Pair) -> Vec<usize> {
+    let ended = parts(pair)
+        .into_iter()
+        .filter(|(kind, _)| *kind == Kind::Ended);
+    let lead = |(_, part): (Kind, String)| part.rsplit_once(':')?.1.parse().ok();
+    ended.filter_map(lead).collect()
+}
+
+#[test]
+fn several_pairs_of_each_coupled_group_are_led_by_each_of_its_products() {
+    for group in COUPLED {
+        let leads: Vec<Vec<usize>> = pairs(group).iter().map(leads).collect();
+        for &product in GROUPS[group] {
+            let times = leads
+                .iter()
+                .filter(|leads| leads.contains(&product))
+                .count();
+            assert!(times >= SEVERAL, "product {product}: {times}");
+        }
+    }
+}
+
+const RAISED: (Kind, &str) = (Kind::Ended, "raised");
+
+fn assert_reached(group: usize, year: u32, wanted: &[(Kind, &str)]) {
+    let is_under_it = |pair: &&Pair| pair.edition == year;
+    let pairs = pairs(group).iter().filter(is_under_it).map(reached);
+    let pairs: Vec<Vec<(Kind, String)>> = pairs.collect();
+    for (kind, word) in wanted {
+        let wanted = (*kind, word.to_string());
+        let times = pairs.iter().filter(|pair| pair.contains(&wanted)).count();
+        assert!(
+            times >= SEVERAL,
+            "group {group}, {year}: {wanted:?} in {times}"
+        );
+    }
+}
+
+#[test]
+fn several_pairs_of_each_group_and_edition_reach_each_event_verdict_and_season() {
+    for (group, products) in GROUPS.iter().enumerate() {
+        let all_renewed = vec!["1"; products.len()].join(" ");
+        let of_both = [&WANTED[..], &[(Kind::Opened, &*all_renewed)]].concat();
+        assert_reached(group, 2014, &of_both);
+        assert_reached(group, 2023, &[&of_both[..], &[RAISED]].concat());
+    }
+}
+
+#[test]
+fn both_sides_are_founded_under_the_pairs_edition() {
+    for Pair { edition, sides, .. } in pairs(0) {
+        let founding = format!("found {edition} ");
+        let ending = format!(" edition={edition}");
+        for side in sides {
+            assert!(side.text.starts_with(founding.as_bytes()));
+            let answers = String::from_utf8(answers(&side.text)).expect("answers are text");
+            let mut books = answers.lines().filter(|line| line.starts_with("book "));
+            assert!(books.all(|line| line.ends_with(&ending)));
+        }
+    }
+}
+
+/// An accepted opening, and where the groups stood before and after it.
+struct Opened {
+    answer: String,
+    before: [Standing; GROUP_COUNT],
+    after: [Standing; GROUP_COUNT],
+}
+
+impl Opened {
+    fn renews(&self, group: usize) -> bool {
+        let renewed = view::part(Kind::Opened, group, &self.answer);
+        renewed.is_some_and(|renewed| renewed.contains('1'))
+    }
+
+    fn brings_back(&self, group: usize) -> bool {
+        let levels = [self.before, self.after].map(|standings| standings[group].level);
+        levels == [Level::Expanded, Level::Initial]
+    }
+
+    fn keeps_expanded(&self, group: usize) -> bool {
+        let standings = [self.before, self.after].map(|standings| standings[group]);
+        standings[0].level == Level::Expanded && standings[0] == standings[1]
+    }
+}
+
+fn openings(side: &Side) -> Vec<Opened> {
+    let mut book: Option<Book> = None;
+    let mut openings = Vec::new();
+    for line in lines(&side.text) {
+        let before = book.as_ref().map(|book| book.standings);
+        let answer = answer::answer_line(&mut book, line).expect("every line is a call");
+        if answer.starts_with("opened") {
+            openings.push(Opened {
+                answer,
+                before: before.expect("a book was founded"),
+                after: book.as_ref().expect("a book was founded").standings,
+            });
+        }
+    }
+    openings
+}
+
+/// Whether some opening is wanted as the two sides made it.
+fn has_opening(pair: &Pair, is_wanted: impl Fn(&Opened, &Opened) -> bool) -> bool {
+    let [first, second] = pair.sides.each_ref().map(openings);
+    assert_eq!(first.len(), second.len(), "the sides agree on openings");
+    let mut both = first.iter().zip(&second);
+    both.any(|(first, second)| is_wanted(first, second))
+}
+
+fn assert_several(group: usize, is_wanted: impl Fn(&Opened, &Opened) -> bool) {
+    let pairs = pairs(group).iter();
+    let times = pairs.filter(|pair| has_opening(pair, &is_wanted)).count();
+    assert!(times >= SEVERAL, "group {group}: {times}");
+}
+
+#[test]
+fn several_pairs_of_each_group_bring_it_back() {
+    for group in 0..GROUP_COUNT {
+        assert_several(group, |first, second| {
+            first.brings_back(group) && second.brings_back(group)
+        });
+    }
+}
+
+#[test]
+fn several_pairs_of_each_group_keep_it_expanded_while_one_side_renews_others() {
+    for group in 0..GROUP_COUNT {
+        let others = || (0..GROUP_COUNT).filter(|&other| other != group);
+        let renews_others = |side: &Opened| others().any(|other| side.renews(other));
+        assert_several(group, |first, second| {
+            let is_kept = first.keeps_expanded(group) && second.keeps_expanded(group);
+            is_kept && renews_others(first) != renews_others(second)
+        });
+    }
+}
+
+/// How often the openings of a side were refused for a left that is not smaller.
+fn stale_openings(side: &Side) -> usize {
+    let answers = answers(&side.text);
+    let stale = answer::refused(Refusal::NotSmaller.number());
+    let is_stale = |line: &&[u8]| *line == stale.as_bytes();
+    lines(&answers).into_iter().filter(is_stale).count()
+}
+
+#[test]
+fn several_pairs_of_each_group_have_a_stale_left_on_one_side_alone() {
+    for group in 0..GROUP_COUNT {
+        let is_on_one = |pair: &&Pair| {
+            let [first, second] = pair.sides.each_ref().map(stale_openings);
+            first != second
+        };
+        let times = pairs(group).iter().filter(is_on_one).count();
+        assert!(times >= SEVERAL, "group {group}: {times}");
+    }
+}
+
+#[test]
+fn a_difference_in_the_group_is_seen() {
+    let pair = &pairs(0)[3];
+    let outputs = pair.sides.each_ref().map(|side| answers(&side.text));
+    let text = String::from_utf8(outputs[1].clone()).expect("answers are text");
+    let other = text.replacen(" level=0", " level=1", 1);
+    assert_ne!(text, other);
+    assert!(pair.difference([&outputs[0], other.as_bytes()]).is_some());
+    assert!(pair.difference([&outputs[0], b""]).is_some());
+}
