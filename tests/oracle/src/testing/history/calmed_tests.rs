@@ -56,7 +56,8 @@ fn parted(pair: &Pair, product: usize) -> Option<[[u32; PRODUCT_COUNT]; 2]> {
 fn a_product_that_moves_widens_its_group_and_no_other() {
     for (group, products) in GROUPS.iter().enumerate() {
         for &product in *products {
-            let parted = pairs(group).iter().filter_map(|pair| parted(pair, product));
+            let lists = pairs(group).iter().map(|answered| &answered.pair);
+            let parted = lists.filter_map(|pair| parted(pair, product));
             let parted: Vec<[[u32; PRODUCT_COUNT]; 2]> = parted.collect();
             assert!(parted.len() >= SEVERAL, "product {product}");
             for [moved, calm] in parted {

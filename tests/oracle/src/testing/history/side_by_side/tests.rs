@@ -8,21 +8,43 @@ use crate::book::{Level, Standing, GROUP_COUNT};
 use crate::history::replay::answers;
 use crate::refusal::Refusal;
 
-/// All pairs of a group, which are drawn once for all tests.
-pub fn pairs(group: usize) -> &'static [Pair] {
-    static PAIRS: [OnceLock<Vec<Pair>>; GROUP_COUNT] = [const { OnceLock::new() }; GROUP_COUNT];
-    PAIRS[group].get_or_init(|| (0..PAIRS_A_GROUP).map(|seed| pair(group, seed)).collect())
+/// A pair, and what this implementation answers to its sides.
+pub struct Answered {
+    pub pair: Pair,
+    outputs: [Vec<u8>; 2],
+}
+
+/// All pairs of a group, which are drawn and answered once for all tests.
+pub fn pairs(group: usize) -> &'static [Answered] {
+    static PAIRS: [OnceLock<Vec<Answered>>; GROUP_COUNT] = [const { OnceLock::new() }; GROUP_COUNT];
+    PAIRS[group].get_or_init(|| {
+        let pairs = (0..PAIRS_A_GROUP).map(|seed| pair(group, seed));
+        pairs.map(Answered::new).collect()
+    })
+}
+
+impl Answered {
+    fn new(pair: Pair) -> Answered {
+        let outputs = pair.sides.each_ref().map(|side| answers(&side.text));
+        Answered { pair, outputs }
+    }
+
+    /// The answers to the two sides.
+    fn texts(&self) -> [&str; 2] {
+        let outputs = self.outputs.each_ref();
+        outputs.map(|output| std::str::from_utf8(output).expect("answers are text"))
+    }
 }
 
 #[test]
 fn this_implementation_keeps_groups_apart() {
     for group in 0..GROUP_COUNT {
-        for pair in pairs(group) {
-            let outputs = pair.sides.each_ref().map(|side| answers(&side.text));
-            assert_ne!(outputs[0], outputs[1]);
-            assert_eq!(pair.difference([&outputs[0], &outputs[1]]), None);
-            let refused = String::from_utf8_lossy(&outputs[0]).contains("refused");
-            assert!(refused, "refused calls are among them");
+        for answered in pairs(group) {
+            let [first, second] = answered.texts();
+            assert_ne!(first, second);
+            let outputs = [first, second].map(str::as_bytes);
+            assert_eq!(answered.pair.difference(outputs), None);
+            assert!(first.contains("refused"), "refused calls are among them");
         }
     }
 }
@@ -43,29 +65,28 @@ const WANTED: [(Kind, &str); 8] = [
 ];
 
 /// The group's parts of the answers on the first side.
-fn parts(pair: &Pair) -> Vec<(Kind, String)> {
-    let side = &pair.sides[0];
-    let answers = answers(&side.text);
-    let answers = lines(&answers);
+fn parts(answered: &Answered) -> Vec<(Kind, String)> {
+    let answers = lines(&answered.outputs[0]);
     let part_of = |probe: &(usize, Kind)| {
-        let part = pair.part(&answers, probe);
+        let part = answered.pair.part(&answers, probe);
         (probe.1, part.expect("nothing agreed is refused"))
     };
-    side.probes.iter().map(part_of).collect()
+    let probes = &answered.pair.sides[0].probes;
+    probes.iter().map(part_of).collect()
 }
 
 /// The kinds of answers that the group got on the first side, without contracts and spans.
-fn reached(pair: &Pair) -> Vec<(Kind, String)> {
+fn reached(answered: &Answered) -> Vec<(Kind, String)> {
     let word_of = |(kind, part): (Kind, String)| {
         let word = part.split(':').next().unwrap_or_default();
         (kind, word.to_string())
     };
-    parts(pair).into_iter().map(word_of).collect()
+    parts(answered).into_iter().map(word_of).collect()
 }
 
 /// The products that led an event of the group.
-fn leads(pair: &Pair) -> Vec<usize> {
-    let ended = parts(pair)
+fn leads(answered: &Answered) -> Vec<usize> {
+    let ended = parts(answered)
         .into_iter()
         .filter(|(kind, _)| *kind == Kind::Ended);
     let lead = |(_, part): (Kind, String)| part.rsplit_once(':')?.1.parse().ok();
@@ -89,7 +110,7 @@ fn several_pairs_of_each_coupled_group_are_led_by_each_of_its_products() {
 const RAISED: (Kind, &str) = (Kind::Ended, "raised");
 
 fn assert_reached(group: usize, year: u32, wanted: &[(Kind, &str)]) {
-    let is_under_it = |pair: &&Pair| pair.edition == year;
+    let is_under_it = |answered: &&Answered| answered.pair.edition == year;
     let pairs = pairs(group).iter().filter(is_under_it).map(reached);
     let pairs: Vec<Vec<(Kind, String)>> = pairs.collect();
     for (kind, word) in wanted {
@@ -114,13 +135,13 @@ fn several_pairs_of_each_group_and_edition_reach_each_event_verdict_and_season()
 
 #[test]
 fn both_sides_are_founded_under_the_pairs_edition() {
-    for Pair { edition, sides, .. } in pairs(0) {
+    for answered in pairs(0) {
+        let edition = answered.pair.edition;
         let founding = format!("found {edition} ");
         let ending = format!(" edition={edition}");
-        for side in sides {
+        for (side, text) in answered.pair.sides.iter().zip(answered.texts()) {
             assert!(side.text.starts_with(founding.as_bytes()));
-            let answers = String::from_utf8(answers(&side.text)).expect("answers are text");
-            let mut books = answers.lines().filter(|line| line.starts_with("book "));
+            let mut books = text.lines().filter(|line| line.starts_with("book "));
             assert!(books.all(|line| line.ends_with(&ending)));
         }
     }
@@ -176,8 +197,10 @@ fn has_opening(pair: &Pair, is_wanted: impl Fn(&Opened, &Opened) -> bool) -> boo
 }
 
 fn assert_several(group: usize, is_wanted: impl Fn(&Opened, &Opened) -> bool) {
-    let pairs = pairs(group).iter();
-    let times = pairs.filter(|pair| has_opening(pair, &is_wanted)).count();
+    let mut times = 0;
+    for answered in pairs(group) {
+        times += usize::from(has_opening(&answered.pair, &is_wanted));
+    }
     assert!(times >= SEVERAL, "group {group}: {times}");
 }
 
@@ -202,33 +225,34 @@ fn several_pairs_of_each_group_keep_it_expanded_while_one_side_renews_others() {
     }
 }
 
-/// How often the openings of a side were refused for a left that is not smaller.
-fn stale_openings(side: &Side) -> usize {
-    let answers = answers(&side.text);
-    let stale = answer::refused(Refusal::NotSmaller.number());
-    let is_stale = |line: &&[u8]| *line == stale.as_bytes();
-    lines(&answers).into_iter().filter(is_stale).count()
-}
-
-#[test]
-fn several_pairs_of_each_group_have_a_stale_left_on_one_side_alone() {
+/// In several pairs of each group the one side is refused so more often than the other.
+fn assert_refused_on_one_side(refusal: Refusal) {
+    let refused = answer::refused(refusal.number());
+    let times = |answers: &str| answers.lines().filter(|line| *line == refused).count();
     for group in 0..GROUP_COUNT {
-        let is_on_one = |pair: &&Pair| {
-            let [first, second] = pair.sides.each_ref().map(stale_openings);
+        let is_on_one = |answered: &&Answered| {
+            let [first, second] = answered.texts().map(times);
             first != second
         };
-        let times = pairs(group).iter().filter(is_on_one).count();
-        assert!(times >= SEVERAL, "group {group}: {times}");
+        let pairs = pairs(group).iter().filter(is_on_one).count();
+        assert!(pairs >= SEVERAL, "group {group}: {pairs}");
     }
 }
 
 #[test]
+fn several_pairs_of_each_group_have_a_stale_left_on_one_side_alone() {
+    assert_refused_on_one_side(Refusal::NotSmaller);
+}
+
+#[test]
 fn a_difference_in_the_group_is_seen() {
-    let pair = &pairs(0)[3];
-    let outputs = pair.sides.each_ref().map(|side| answers(&side.text));
-    let text = String::from_utf8(outputs[1].clone()).expect("answers are text");
-    let other = text.replacen(" level=0", " level=1", 1);
-    assert_ne!(text, other);
-    assert!(pair.difference([&outputs[0], other.as_bytes()]).is_some());
-    assert!(pair.difference([&outputs[0], b""]).is_some());
+    let answered = &pairs(0)[3];
+    let [first, second] = answered.texts();
+    let other = second.replacen(" level=0", " level=1", 1);
+    assert_ne!(second, other);
+    let is_seen = |other: &str| {
+        let outputs = [first, other].map(str::as_bytes);
+        answered.pair.difference(outputs).is_some()
+    };
+    assert!(!is_seen(second) && is_seen(&other) && is_seen(""));
 }
