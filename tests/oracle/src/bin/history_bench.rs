@@ -75,7 +75,7 @@ fn in_turn(program: &Path, oracle: &Path, history: &History) -> io::Result<(f64,
 }
 
 fn compare(program: &Path, oracle: &Path, folder: &Path, edition: u32) -> io::Result<()> {
-    let life = days::all_days(edition, CHECKS_A_DAY);
+    let life = days::all_days(edition, CHECKS_A_DAY).text;
     let history = write(folder, "days.history", &[&life])?;
     let (ours, theirs) = in_turn(program, oracle, &history)?;
     let speed = |time: f64| history.calls as f64 / time;
@@ -97,7 +97,11 @@ fn compare(program: &Path, oracle: &Path, folder: &Path, edition: u32) -> io::Re
 fn sections(program: &Path, folder: &Path) -> io::Result<()> {
     let mut before = (0.0, 0);
     for count in SECTIONS {
-        let history = write(folder, "first.history", &[&days::days(EDITION, 0, count)])?;
+        let history = write(
+            folder,
+            "first.history",
+            &[&days::days(EDITION, 0, count).text],
+        )?;
         let times: io::Result<Vec<f64>> = (0..ROUNDS).map(|_| seconds(program, &history)).collect();
         let time = median(times?);
         let calls = history.calls - before.1;
@@ -112,7 +116,7 @@ fn sections(program: &Path, folder: &Path) -> io::Result<()> {
 
 /// One founding after another, each through all its days.
 fn foundings(program: &Path, folder: &Path) -> io::Result<()> {
-    let life = days::all_days(EDITION, 0);
+    let life = days::all_days(EDITION, 0).text;
     let one = write(folder, "life.history", &[&life])?;
     let all = write(folder, "lives.history", &vec![life.as_slice(); FOUNDINGS])?;
     let first = seconds(program, &one)? / one.calls as f64;
@@ -128,7 +132,7 @@ fn foundings(program: &Path, folder: &Path) -> io::Result<()> {
 
 /// One check again and again, on a book with full windows.
 fn one_check(program: &Path, folder: &Path) -> io::Result<()> {
-    let life = days::days(EDITION, CHECKS_A_DAY, 100);
+    let life = days::days(EDITION, CHECKS_A_DAY, 100).text;
     let text = String::from_utf8_lossy(&life);
     let last_end = text.rfind("end\n").unwrap_or(0);
     let check = text

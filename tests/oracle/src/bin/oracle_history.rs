@@ -22,7 +22,7 @@ fn main() -> ExitCode {
     let arguments: Vec<String> = std::env::args().skip(1).collect();
     let words: Vec<&str> = arguments.iter().map(String::as_str).collect();
     let text = match words.as_slice() {
-        ["days", year] => edition(year).map(|edition| days::all_days(edition, CHECKS_A_DAY)),
+        ["days", year] => edition(year).map(|edition| days::all_days(edition, CHECKS_A_DAY).text),
         ["seed", seed] => seed.parse().ok().map(|seed| scenario::history(seed).text),
         _ => None,
     };

@@ -20,24 +20,31 @@ const LIMITS: [u32; 8] = [200, 400, 200, 200, 240, 240, 160, 100];
 /// About where the products settle, in their own units.
 const PRICES: [u32; 8] = [3_600, 8_000, 3_000, 3_500, 4_400, 4_400, 2_400, 2_800];
 
+/// A history, and the answers that this implementation gave while it was made.
+#[derive(Default)]
+pub struct Days {
+    pub text: Vec<u8>,
+    pub answers: Vec<u8>,
+}
+
 struct Course {
     random: Random,
     market: Market,
-    text: Vec<u8>,
+    days: Days,
     book: Option<Book>,
 }
 
 /// The history of all 36,160 days under an edition, with so many checks a day from the second on.
-pub fn all_days(edition: u32, checks: usize) -> Vec<u8> {
+pub fn all_days(edition: u32, checks: usize) -> Days {
     days(edition, checks, calendar().days.len())
 }
 
 /// The history of the first days.
-pub fn days(edition: u32, checks: usize, count: usize) -> Vec<u8> {
+pub fn days(edition: u32, checks: usize, count: usize) -> Days {
     let mut course = Course {
         random: Random::new(SEED),
         market: market(),
-        text: Vec::new(),
+        days: Days::default(),
         book: None,
     };
     course.call(Call::Found(FoundCall {
@@ -47,7 +54,7 @@ pub fn days(edition: u32, checks: usize, count: usize) -> Vec<u8> {
     for &date in calendar().days.iter().take(count) {
         course.day(date, checks);
     }
-    course.text
+    course.days
 }
 
 fn market() -> Market {
@@ -71,8 +78,11 @@ impl Course {
     fn call(&mut self, call: Call) {
         let answer = answer::answer(&mut self.book, &call);
         assert!(!answer.starts_with("refused"), "{call:?}: {answer}");
-        self.text.extend_from_slice(text::line(&call).as_bytes());
-        self.text.push(b'\n');
+        let Days { text, answers } = &mut self.days;
+        text.extend_from_slice(text::line(&call).as_bytes());
+        text.push(b'\n');
+        answers.extend_from_slice(answer.as_bytes());
+        answers.push(b'\n');
     }
 
     fn book(&self) -> &Book {
@@ -125,8 +135,9 @@ mod tests {
     #[test]
     fn two_years_are_accepted_and_reach_events() {
         for edition in EDITIONS {
-            let history = days(edition, 10, 800);
-            let answers = String::from_utf8(answers(&history)).expect("answers are text");
+            let days = days(edition, 10, 800);
+            assert!(answers(&days.text) == days.answers, "{edition}");
+            let answers = String::from_utf8(days.answers).expect("answers are text");
             assert!(!answers.contains("refused"));
             assert_eq!(answers.contains("raised"), edition == 2023);
             for word in [

@@ -118,7 +118,7 @@ impl Job {
     /// The histories that the job is about.
     pub fn histories(&self) -> io::Result<Vec<Vec<u8>>> {
         Ok(match self {
-            Job::AllDays(edition) => vec![days::all_days(*edition, CHECKS_A_DAY)],
+            Job::AllDays(edition) => vec![days::all_days(*edition, CHECKS_A_DAY).text],
             Job::EveryDate(edition) => vec![every_date::history(*edition)],
             Job::Generated(seed) => vec![scenario::history(*seed).text],
             Job::SentAgain(seed) => {
@@ -199,13 +199,8 @@ fn example(program: &mut Program, path: &Path) -> Option<String> {
 
 /// No call of all days is refused, by this implementation or by the program.
 fn all_days(program: &mut Program, edition: u32) -> Option<String> {
-    let history = days::all_days(edition, CHECKS_A_DAY);
-    let expected = answers(&history);
-    let is_refused = |line: &&[u8]| line.starts_with(b"refused") || line.starts_with(b"no");
-    match lines(&expected).iter().find(|line| is_refused(line)) {
-        Some(_) => Some("a call of the history itself is refused".to_string()),
-        None => compare(program, &history, &expected),
-    }
+    let days = days::all_days(edition, CHECKS_A_DAY);
+    compare(program, &days.text, &days.answers)
 }
 
 /// The expected answers are first held to the calendar, then the program to them.
