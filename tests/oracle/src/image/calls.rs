@@ -49,11 +49,20 @@ impl Image {
         call: impl FnOnce(&mut Book) -> Result<Answer, Refusal>,
         put: impl FnOnce(&mut Image, Answer),
     ) -> Result<(), Refusal> {
-        let mut book = self.book().ok_or(Refusal::Unsound)?;
-        let answer = call(&mut book)?;
+        let (book, answer) = self.after(call)?;
         self.put_book(&book);
         put(self, answer);
         Ok(())
+    }
+
+    /// The book in the image after a call, and what the call answered.
+    fn after<Answer>(
+        &self,
+        call: impl FnOnce(&mut Book) -> Result<Answer, Refusal>,
+    ) -> Result<(Book, Answer), Refusal> {
+        let mut book = self.book().ok_or(Refusal::Unsound)?;
+        let answer = call(&mut book)?;
+        Ok((book, answer))
     }
 }
 
