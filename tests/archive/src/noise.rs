@@ -113,11 +113,8 @@ fn with_bytes(image: &Image, change: impl FnOnce(&mut [u8])) -> Words {
 
 /// An image as a program would write it to a file.
 pub fn bytes_of(image: &Image) -> Vec<u8> {
-    image
-        .words()
-        .iter()
-        .flat_map(|word| word.to_ne_bytes())
-        .collect()
+    let bytes = image.words().map(u32::to_ne_bytes);
+    bytes.as_flattened().to_vec()
 }
 
 /// Words as a program would read them from a file.
