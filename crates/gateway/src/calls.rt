@@ -6,7 +6,7 @@ ghost use Rattle.gateway.specs.Calls.{RespondsImage, image_check, FoundsImage};
 ghost use Rattle.gateway.specs.Written.{Writes};
 
 use grain::Refusal;
-use image::{WORDS, book_in, put_ended, put_filed, put_founded, put_opened};
+use image::{WORDS, book_in, put_alone, put_ended, put_founded, put_opened};
 use record::Day;
 
 // The number of a call: 0, where what it answers is put in the words, or that of its refusal. `put` is lent both: a proof does not know what a
@@ -89,7 +89,7 @@ pub extern "C" fn botskhela_sheet(
 {
     let mut b = book_in(words);
     let filed = filing::sheet(&mut b, product, months, settlements);
-    write(words, filed, |w, _| put_filed(w, &b))
+    write(words, filed, |w, _| put_alone(w, &b))
 }
 
 #[unsafe(no_mangle)]

@@ -47,8 +47,8 @@ module _ (ws : List ℕ) (long : length ws ≡ at.words) where
           events = part_is zs es [] at.events (group_count * event_words) (after-part zs rs es at.renewed 8 here k ∙ sym (append-nil es)) l;
         }
 
-    pub filed_put : Put b (renewed_in ws) (events_in ws) now
-    filed_put =
+    pub alone_put : Put b (renewed_in ws) (events_in ws) now
+    alone_put =
         read_back (renewed_in ws) (events_in ws) now
         ((begun_more ws (words_of_book b) at.renewed 8 now book_begun (omega arith)).is ∙ ap (λ r. (words_of_book b ++ renewed_in ws) ++ r) events_are ∙ append_assoc (words_of_book b) (renewed_in ws) (events_in ws))
         renewed_long events_long

@@ -18,4 +18,4 @@ mod words;
 
 pub use book_words::book_in;
 pub use places::WORDS;
-pub use whole::{put_ended, put_filed, put_founded, put_opened};
+pub use whole::{put_alone, put_ended, put_founded, put_opened};

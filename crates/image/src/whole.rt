@@ -15,8 +15,8 @@ use book::Book;
 use grain::PRODUCT_COUNT;
 use record::{Event, GROUP_COUNT};
 
-// A sheet answers nothing: the answers of other calls stay.
-pub fn put_filed(w: &mut [u32; WORDS], b: &Book)
+// After a call that answers nothing: the answers of other calls stay.
+pub fn put_alone(w: &mut [u32; WORDS], b: &Book)
     ensures { Put b.now (renewed_in w.old) (events_in w.old) w.new }
 {
     write_book(w, b);
