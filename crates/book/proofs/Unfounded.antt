@@ -7,7 +7,7 @@ use Rattle.grain.specs.Amounts.{is_fit}
 use Rattle.record.specs.State.{group_table}
 use Rattle.record.specs.Refusals.{unsound}
 use Rattle.record.specs.Sound.{is_sound_product, is_sound_group, is_sound_date, is_sound}
-use Rattle.record.specs.Record.{Call, refused, refusal, respond}
+use Rattle.record.specs.Record.{Call, change, question, refused, refusal, respond}
 use Rattle.book.specs.Book.{view_group, view_common, view, view_held}
 use Rattle.book.specs.Founding.{no_book}
 
@@ -17,4 +17,5 @@ no_book-unsound = refl
 
 pub no_book_refuses : (c : Call) → respond (view no_book) c ≡ record { state = view no_book; answer = refused unsound }
 unfolding respond refusal
-no_book_refuses c = rw no_book-unsound
+no_book_refuses (change c) = rw no_book-unsound
+no_book_refuses (question q) = rw no_book-unsound

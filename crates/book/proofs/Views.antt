@@ -9,7 +9,7 @@ use borrow.Author.Tests.{ltb-true, eqb-true, eq-eqb, eqb-false, ne_eqb}
 use Rattle.grain.specs.Lists.{◌and◌, every, is_in}
 use Rattle.grain.specs.Products.{product_count, is_product}
 use Rattle.record.specs.State.{Product, Group, group_table, group_count, group_of, no_group, group_at, find, product_in}
-use Rattle.record.specs.Record.{Call, next, next_common, next_group}
+use Rattle.record.specs.Record.{Change, next, next_common, next_group}
 use Rattle.record.specs.History.{products_of}
 use Rattle.record.proofs.GroupTable.{group_small, own_group, small_products}
 use Rattle.book.specs.declared.Book.{Book}
@@ -83,7 +83,7 @@ all_groups_lem b z k e =
     ∙ sym (ap (map k) (groups_are b) ∙ map-map k (shown_group b) all_groups)
 
 -- the whole Record, from what is common and the groups
-pub next-view : (b z : Book) (c : Call) → view_common z ≡ next_common (view_common b) c
+pub next-view : (b z : Book) (c : Change) → view_common z ≡ next_common (view_common b) c
     → ((g : ℕ) → g < group_count → shown_group z g ≡ next_group (view_common b) c (shown_group b g))
     → view z ≡ next (view b) c
 unfolding view next

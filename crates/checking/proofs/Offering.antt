@@ -1,6 +1,6 @@
 -- What a book's terms are, of a product and size that are offered.
 use Prim.Native.Nat.{ℕ, ◌<◌}
-use mathlib.Core.Path.{◌≡◌, refl, sym, ◌∙◌, ap}
+use mathlib.Core.Path.{◌≡◌, refl, sym}
 use mathlib.Core.Bool.{Bool, true, false, not, cond}
 use mathlib.Core.List.{List, [], ◌∷◌}
 use Rattle.std.specs.Prelude.{Some, None, Ok, Err}
@@ -13,19 +13,17 @@ use Rattle.grain.specs.declared.spot.TradeDate.{TradeDate}
 use Rattle.grain.proofs.Columns.{tick_beyond}
 use Rattle.record.specs.declared.Day.{Day}
 use Rattle.record.specs.Refusals.{Test, when}
-use Rattle.record.specs.State.{Product, trade_date, group_of, group_at, product_in, todays_limit, sheet_or}
+use Rattle.record.specs.State.{trade_date, group_of, group_at, todays_limit}
 use Rattle.record.specs.Check.{Terms, terms_tests}
 use Rattle.record.specs.Sound.{is_sound}
 use Rattle.record.specs.Record.{terms_in, terms_refusal}
 use Rattle.sheets.specs.Sheets.{entries_of}
-use Rattle.sheets.proofs.Rest.{counted}
 use Rattle.book.specs.declared.Book.{Book}
-use Rattle.book.specs.Book.{last_in, view, view_held}
+use Rattle.book.specs.Book.{last_in, view}
 use Rattle.book.specs.Phase.{phase_refusal}
 use Rattle.book.proofs.Phases.{refused_early, decided_late}
 use Rattle.book.proofs.LastSheets.{last_is}
-use Rattle.book.proofs.SoundFacts.{day_in, last_fits}
-use Rattle.book.proofs.Views.{product_is}
+use Rattle.book.proofs.SoundFacts.{day_in}
 use Rattle.checking.specs.declared.terms.Terms.{Terms as Declared}
 use Rattle.checking.specs.Terms.{view_terms, Offers}
 

@@ -1,14 +1,15 @@
 -- What a check promises, whatever the book, product, size, month and price.
-use Rattle.std.specs.Prelude.{ℕ, Result}
+use Rattle.std.specs.Prelude.{ℕ, ◌≡◌, Result}
 use Rattle.grain.specs.declared.check.Verdict.{Verdict}
 use Rattle.grain.specs.declared.refusals.Refusal.{Refusal}
-use Rattle.record.specs.Record.{check, Answer, checked}
+use Rattle.record.specs.Record.{check, checked, Answer, ask}
 use Rattle.book.specs.declared.Book.{Book}
-use Rattle.book.specs.Calls.{Responds, answer_as}
+use Rattle.book.specs.Book.{view}
+use Rattle.book.specs.Calls.{answer_as}
 
 abbrev pub checked_as : Result Verdict Refusal → Answer
 checked_as r = answer_as checked r
 
--- a check only reads the book, which stays as it is
+-- The answer is the Record's. The book is lent to read only, and stays as it is.
 abbrev pub Checks : Book → ℕ → ℕ → ℕ → ℕ → Result Verdict Refusal → Type 0
-Checks b p size month price r = Responds b (check p size month price) (checked_as r) b
+Checks b p size month price r = checked_as r ≡ ask (view b) (check p size month price)

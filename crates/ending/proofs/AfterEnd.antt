@@ -16,7 +16,7 @@ use Rattle.record.specs.Edition.{conditions_of}
 use Rattle.record.specs.Move.{Move, is_at_expanded, group_moves}
 use Rattle.record.specs.End.{group_event, event_of, level_after, mark_after, end_product, end_group}
 use Rattle.record.specs.Sound.{is_expanded}
-use Rattle.record.specs.Record.{end, ended, answer, next, next_common, next_group}
+use Rattle.record.specs.Record.{end, change, ended, answer, next, next_common, next_group}
 use Rattle.record.specs.History.{products_of}
 use Rattle.record.proofs.GroupTable.{is_member, members}
 use Rattle.book.specs.declared.Book.{Book}
@@ -95,7 +95,7 @@ module _ (b z : Book) (es : List Event) (after : Leaves b z es) where
       let products = products_view b z (end_product (today b) e) (is_member g) (λ p t. after.products p (ltb-true _ _ (and_left _ _ t)) ∙ ap (λ (e : Event). end_product (today b) e (view_product b p)) (ap (λ (g : ℕ). get_or es g quiet) (eqb-true _ _ (and_right _ _ t)) ∙ event_at g l)) (products_of g) (members g l) in
       sym (group_after_lem b g ∙ sym (rw (after.standings g l, event_at g l, level_of_lem e, products)))
 
-  pub end_answer : ended es ≡ answer (view b) end
+  pub end_answer : ended es ≡ answer (view b) (change end)
   unfolding answer view
   end_answer = ap ended (after.events ∙ sym (events_are b))
 

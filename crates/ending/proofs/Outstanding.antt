@@ -8,7 +8,7 @@ use Rattle.std.specs.List.{list_any}
 use Rattle.grain.specs.Lists.{◌and◌, every}
 use Rattle.record.specs.Refusals.{when, sheet_outstanding}
 use Rattle.record.specs.State.{Product, Group, group_table}
-use Rattle.record.specs.Record.{end, is_outstanding, tests, refusal}
+use Rattle.record.specs.Record.{end, change, is_outstanding, tests, refusal}
 use Rattle.sheets.specs.Sheets.{sheet_in}
 use Rattle.book.specs.declared.Book.{Book}
 use Rattle.book.specs.Book.{today_in, view_groups, view, view_held}
@@ -44,12 +44,12 @@ outstanding_is b =
     one-not are_in is_outstanding group_outstanding (view_groups b 0 group_table) ∙ ap not (flat b is_in)
 
 -- refused by the first two tests
-pub phase_refuses : (b : Book) (n : ℕ) → Some n ≡ phase_refusal true (view b) → Some n ≡ refusal (view b) end
+pub phase_refuses : (b : Book) (n : ℕ) → Some n ≡ phase_refusal true (view b) → Some n ≡ refusal (view b) (change end)
 unfolding refusal tests
 phase_refuses b n e = sym (refused_early (view b) _ n (when (list_any is_outstanding (view b).groups) sheet_outstanding ∷ []) (sym e))
 
 -- past them, whether all sheets are in decides
-pub sheets_decide : (b : Book) → None ≡ phase_refusal true (view b) → refusal (view b) end ≡ cond (not (are_all_in b)) (Some sheet_outstanding) None
+pub sheets_decide : (b : Book) → None ≡ phase_refusal true (view b) → refusal (view b) (change end) ≡ cond (not (are_all_in b)) (Some sheet_outstanding) None
 unfolding refusal tests
 sheets_decide b e =
     decided_late (view b) _ (when (list_any is_outstanding (view b).groups) sheet_outstanding ∷ []) (sym e)

@@ -12,7 +12,7 @@ use Rattle.record.specs.Edition.{conditions_of}
 use Rattle.record.specs.Move.{is_at_expanded}
 use Rattle.record.specs.End.{level_after, mark_after, event_of}
 use Rattle.record.specs.Sound.{is_expanded}
-use Rattle.record.specs.Record.{end, Answer, ended}
+use Rattle.record.specs.Record.{end, ended, Answer}
 use Rattle.record.specs.History.{products_of}
 use Rattle.book.specs.declared.Standing.{Standing}
 use Rattle.book.specs.declared.product.Product.{Product as Held}

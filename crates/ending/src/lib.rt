@@ -2,7 +2,7 @@
 #![tactic(auto)]
 
 ghost use Rattle.std.specs.Prelude.{◌≡◌, true, Some};
-ghost use Rattle.record.specs.Record.{answer, next as next_state, end as call, ended as answered};
+ghost use Rattle.record.specs.Record.{answer, next as next_state, change, end as call, ended as answered};
 ghost use Rattle.record.specs.Sound.{is_sound};
 ghost use Rattle.book.specs.Book.{view};
 ghost use Rattle.ending.specs.Ends.{Ends};
@@ -36,7 +36,7 @@ pub fn end(b: &mut Book) -> Result<[Event; GROUP_COUNT], Refusal>
 // Events are by the levels, limits and marks before the end; today's sheets become the last ended ones.
 fn accepted(b: &mut Book, on: OpenDay) -> [Event; GROUP_COUNT]
     requires { (is_sound (view b.old) ≡ true) × (b.old.opened ≡ Some on.day) }
-    ensures { (answered result ≡ answer (view b.old) call) × (view b.new ≡ next_state (view b.old) call) }
+    ensures { (answered result ≡ answer (view b.old) (change call)) × (view b.new ≡ next_state (view b.old) call) }
 {
     let moves = DayMoves {
         book: b,

@@ -1,7 +1,7 @@
 // What refuses an end: 1, 2, 12 in this order.
 ghost use Rattle.std.specs.Prelude.{◌≡◌, Some};
 ghost use Rattle.std.specs.Result.{ForOk};
-ghost use Rattle.record.specs.Record.{end, refusal};
+ghost use Rattle.record.specs.Record.{end, change, refusal};
 ghost use Rattle.book.specs.Book.{view};
 ghost use Rattle.book.specs.Calls.{refusal_in};
 
@@ -11,7 +11,7 @@ use grain::Refusal;
 // The day that ends.
 #[tactic(auto, using(crate::proofs::Outstanding::phase_refuses, crate::proofs::Outstanding::sheets_decide))]
 pub(crate) fn ended_day(b: &Book) -> Result<OpenDay, Refusal>
-    ensures refusal { refusal_in result ≡ refusal (view b.now) end }
+    ensures refusal { refusal_in result ≡ refusal (view b.now) (change end) }
     ensures day { ForOk result (λ on. b.now.opened ≡ Some on.day) }
 {
     let on = b.open_day()?;

@@ -1,6 +1,6 @@
 -- What the tests over the contracts look at, by the book: the open day, its spot months and the last ended sheet.
-use Prim.Native.Nat.{ℕ, ◌<◌, ◌≤◌}
-use mathlib.Core.Path.{◌≡◌, refl, ◌∙◌, ap}
+use Prim.Native.Nat.{ℕ, ◌<◌}
+use mathlib.Core.Path.{◌≡◌, refl, ap}
 use mathlib.Core.Bool.{Bool, true, not, ◌&&◌}
 use lib.Dec.{leb}
 use mathlib.Core.List.{List, [], ◌∷◌}
@@ -13,16 +13,13 @@ use Rattle.record.specs.declared.Day.{Day}
 use Rattle.record.specs.declared.Contract.{Contract}
 use Rattle.std.specs.Prelude.{Option}
 use Rattle.record.specs.Refusals.{when, first, bad_month, contract_absent, beyond_limit}
-use Rattle.record.specs.State.{Product, day_of, month_of, trade_date, is_spot_on, group_of, group_at, product_in, todays_limit, sheet_or}
+use Rattle.record.specs.State.{day_of, month_of, trade_date, is_spot_on, group_of, group_at, todays_limit}
 use Rattle.record.specs.Sheet.{has_bad_month, has_bad_settlement, lacks_contract, is_beyond}
 use Rattle.record.specs.Sound.{is_sound}
 use Rattle.sheets.specs.Sheets.{entries_of, months_of, settlements_of}
-use Rattle.sheets.proofs.Rest.{counted}
 use Rattle.book.specs.declared.Book.{Book}
-use Rattle.book.specs.Book.{last_in, view, view_held}
+use Rattle.book.specs.Book.{last_in, view}
 use Rattle.book.proofs.LastSheets.{last_is}
-use Rattle.book.proofs.SoundFacts.{last_fits}
-use Rattle.book.proofs.Views.{product_is}
 use Rattle.filing.specs.Files.{contract_tests}
 
 -- the tests of the months, one after another

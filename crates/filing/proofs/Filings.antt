@@ -16,7 +16,7 @@ use Rattle.record.specs.declared.Contract.{Contract}
 use Rattle.record.specs.Refusals.{Test, when, first, bad_month, contract_absent, beyond_limit}
 use Rattle.record.specs.State.{Record, day_of, month_of, is_spot_on, group_of, group_at, product_in, todays_limit, sheet_or}
 use Rattle.record.specs.Sheet.{contracts, is_misshapen, has_bad_month, has_bad_settlement, lacks_contract, is_beyond, sheet_tests, file_product, file_group}
-use Rattle.record.specs.Record.{sheet, tests, refusal, next, next_common, next_group}
+use Rattle.record.specs.Record.{sheet, change, tests, refusal, next, next_common, next_group}
 use Rattle.record.proofs.Cleared.{cleared}
 use Rattle.sheets.specs.declared.sheet.Sheet.{Sheet}
 use Rattle.sheets.specs.Sheets.{entries_of, sheet_in, months_of, settlements_of, SheetOf}
@@ -94,20 +94,20 @@ module _ (r : Record) (p : ℕ) (ms ss : List ℕ) where
   own_tests = early_tests r p ms ss ++ later
 
   -- refused by the first two tests
-  pub phase_refuses : (n : ℕ) → phase_refusal true r ≡ Some n → refusal r (sheet p ms ss) ≡ Some n
+  pub phase_refuses : (n : ℕ) → phase_refusal true r ≡ Some n → refusal r (change (sheet p ms ss)) ≡ Some n
   unfolding refusal tests sheet_tests own_tests later
   phase_refuses n e = refused_early r (not r.common.is_open) n own_tests e
 
   module _ (past : None ≡ phase_refusal true r) where
-    refusal_is : refusal r (sheet p ms ss) ≡ option_or (first (early_tests r p ms ss)) (first later)
+    refusal_is : refusal r (change (sheet p ms ss)) ≡ option_or (first (early_tests r p ms ss)) (first later)
     unfolding refusal tests sheet_tests own_tests later
     refusal_is = decided_late r (not r.common.is_open) own_tests (sym past) ∙ first_joined (early_tests r p ms ss) later
 
-    pub early_refuses : (n : ℕ) → first (early_tests r p ms ss) ≡ Some n → refusal r (sheet p ms ss) ≡ Some n
+    pub early_refuses : (n : ℕ) → first (early_tests r p ms ss) ≡ Some n → refusal r (change (sheet p ms ss)) ≡ Some n
     early_refuses n e = refusal_is ∙ ap (λ (o : Option ℕ). option_or o (first later)) e
 
     contracts_refuse : first (early_tests r p ms ss) ≡ None → length ss ≡ length ms
-        → refusal r (sheet p ms ss) ≡ first (contract_tests r p (contracts ms ss))
+        → refusal r (change (sheet p ms ss)) ≡ first (contract_tests r p (contracts ms ss))
     unfolding later
     contracts_refuse e same =
         refusal_is
@@ -127,7 +127,7 @@ early b p ms ss e =
 
 -- past them, the tests over the contracts decide
 pub refusal_late : (b : Book) (p : ℕ) (ms ss : List ℕ) (s : Sheet) → None ≡ phase_refusal true (view b) → Early b p ms ss → Made ms ss s
-    → refusal (view b) (sheet p ms ss) ≡ first (contract_tests (view b) p (entries_of s))
+    → refusal (view b) (change (sheet p ms ss)) ≡ first (contract_tests (view b) p (entries_of s))
 refusal_late b p ms ss s past e is =
     contracts_refuse (view b) p ms ss past e.passed e.arrays.same
     ∙ sym (ap (λ (cs : List Contract). first (contract_tests (view b) p cs)) is.entries)

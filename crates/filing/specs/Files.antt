@@ -7,7 +7,7 @@ use Rattle.record.specs.declared.Contract.{Contract}
 use Rattle.record.specs.Refusals.{Test, when, already_in, bad_month, contract_absent, beyond_limit}
 use Rattle.record.specs.State.{Record, day_of, month_of, is_spot_on, group_of, group_at, product_in, todays_limit, sheet_or}
 use Rattle.record.specs.Sheet.{is_misshapen, has_bad_month, has_bad_settlement, lacks_contract, is_beyond}
-use Rattle.record.specs.Record.{sheet, Answer, filed}
+use Rattle.record.specs.Record.{sheet, filed, Answer}
 use Rattle.sheets.specs.Sheets.{months_of, settlements_of}
 use Rattle.book.specs.declared.Book.{Book}
 use Rattle.book.specs.Calls.{Responds, answer_as}

@@ -15,13 +15,12 @@ use Rattle.record.specs.Refusals.{unsound}
 use Rattle.record.specs.State.{Record, group_of, group_at}
 use Rattle.record.specs.Founding.{Start, founding_refusal, founded}
 use Rattle.record.specs.Sound.{is_sound}
-use Rattle.record.specs.Record.{Call, check, Answer, refused, opened, filed, ended, checked, refusal, answer, answer_by, respond, state_after, answers}
+use Rattle.record.specs.Record.{Change, check, Call, change, question, opened, filed, ended, checked, Answer, refused, accepted, refusal, answer, answer_by, respond, ask, state_after, answers}
 use Rattle.record.specs.History.{SameFor}
 use Rattle.record.specs.Theorems.{after, history_of, is_refusal}
 use Rattle.record.proofs.Proved.{theorems}
 use Rattle.book.specs.Book.{view}
 use Rattle.book.proofs.SoundnessFirst.{unsound-refusal}
-use Rattle.book.proofs.Responses.{check_responds}
 use Rattle.book.proofs.Unfounded.{no_book-unsound}
 use Rattle.history.proofs.Agrees as agrees
 use Rattle.image.specs.Image.{is_image, book_in}
@@ -42,17 +41,21 @@ module _ (v : Verdict) (l : List ℕ) where
   keeps_events (Some n) = refl
   keeps_events None = refl
 
-check_image : (ws : List ℕ) (p size month price n : ℕ) → n ≡ image_check ws p size month price → RespondsImage ws (check p size month price) n ws
+record Stepped (ws : List ℕ) (c : Call) (n : ℕ) (now : List ℕ) : Type 0 where
+  number : n ≡ answer_number (answer_to ws c)
+  state : view (book_in now) ≡ (respond (view (book_in ws)) c).state
+  renewed : renewed_in now ≡ renewed_after (answer_to ws c) (renewed_in ws)
+  events : events_in now ≡ events_after (answer_to ws c) (events_in ws)
+
+changed : {ws now : List ℕ} {c : Change} {n : ℕ} → RespondsImage ws c n now → Stepped ws (change c) n now
+changed r = record { number = r.number; state = r.state; renewed = r.renewed; events = r.events }
+
+asked : (ws : List ℕ) (p size month price n : ℕ) → n ≡ image_check ws p size month price
+    → Stepped ws (question (check p size month price)) n ws
 unfolding respond answer
-check_image ws p size month price n e =
-    let r = refusal (view (book_in ws)) (check p size month price) in
-    record {
-      number = e;
-      state = (check_responds (book_in ws) p size month price (answer_to ws (check p size month price)) refl).state;
-      renewed = keeps_renewed _ (renewed_in ws) r;
-      events = keeps_events _ (events_in ws) r;
-      unchanged = λ m f. refl;
-    }
+asked ws p size month price n e =
+    let r = refusal (view (book_in ws)) (question (check p size month price)) in
+    record { number = e; state = refl; renewed = keeps_renewed _ (renewed_in ws) r; events = keeps_events _ (events_in ws) r }
 
 -- ---- one list
 record Follows (ws : List ℕ) (cs : List Call) (vs : List Seen) (z : List ℕ) : Type 0 where
@@ -60,7 +63,7 @@ record Follows (ws : List ℕ) (cs : List Call) (vs : List Seen) (z : List ℕ) 
   contents : view (book_in z) ≡ state_after (view (book_in ws)) cs
 
 one_more : {ws now z : List ℕ} {c : Call} {n : ℕ} {cs : List Call} {vs : List Seen}
-    → RespondsImage ws c n now → Follows now cs vs z → Follows ws (c ∷ cs) (sees n now ∷ vs) z
+    → Stepped ws c n now → Follows now cs vs z → Follows ws (c ∷ cs) (sees n now ∷ vs) z
 unfolding answers state_after seen_of
 one_more {ws} {now} {z} {c} {n} {cs} {vs} r f =
     record {
@@ -71,43 +74,43 @@ one_more {ws} {now} {z} {c} {n} {cs} {vs} r f =
 follows : {ws z : List ℕ} {cs : List Call} {vs : List Seen} → ImageTrace ws cs vs z → Follows ws cs vs z
 unfolding answers state_after seen_of
 follows done = record { seen = refl; contents = refl }
-follows (changes n r t) = one_more r (follows t)
-follows (checks n e t) = one_more (check_image _ _ _ _ _ n e) (follows t)
-follows (spans r e t) = one_more (check_image _ _ _ _ _ r.answer (ap (λ (r : Spanned). r.answer) e)) (follows t)
+follows (changes n r t) = one_more (changed r) (follows t)
+follows (checks n e t) = one_more (asked _ _ _ _ _ n e) (follows t)
+follows (spans r e t) = one_more (asked _ _ _ _ _ r.answer (ap (λ (r : Spanned). r.answer) e)) (follows t)
 
 module _ (s : Start) (cs : List Call) (vs : List Seen) (z : List ℕ) (run : ImageRun s cs vs z) where
-  accepted : founding_refusal s ≡ None
-  accepted = accepted_by s run.founds.number
+  is_founded : founding_refusal s ≡ None
+  is_founded = accepted_by s run.founds.number
 
   seen_is : vs ≡ seen_of no_renewed no_events (answers (founded s) cs)
   seen_is =
       let f = run.founds in
       let ws = run.fresh in
       (follows run.trace).seen
-      ∙ ap (λ (r : Record). seen_of (renewed_in ws) (events_in ws) (answers r cs)) (f.state accepted)
-      ∙ ap (λ rs. seen_of rs (events_in ws) (answers (founded s) cs)) (f.renewed accepted)
-      ∙ ap (λ es. seen_of no_renewed es (answers (founded s) cs)) (f.events accepted)
+      ∙ ap (λ (r : Record). seen_of (renewed_in ws) (events_in ws) (answers r cs)) (f.state is_founded)
+      ∙ ap (λ rs. seen_of rs (events_in ws) (answers (founded s) cs)) (f.renewed is_founded)
+      ∙ ap (λ es. seen_of no_renewed es (answers (founded s) cs)) (f.events is_founded)
 
   contents_are : view (book_in z) ≡ after s cs
-  contents_are = (follows run.trace).contents ∙ ap (λ (r : Record). state_after r cs) (run.founds.state accepted)
+  contents_are = (follows run.trace).contents ∙ ap (λ (r : Record). state_after r cs) (run.founds.state is_founded)
 
   -- a verdict with a span, sent again at its ends
   module _ (p size month price : ℕ) where
-    at_ends : (v : Verdict) (a : Span) → answer_to z (check p size month price) ≡ checked v → span_in v ≡ Some a
-        → ResentImage z p size month (with_span (checked (Within a)))
+    at_ends : (v : Verdict) (a : Span) → answer_to z (question (check p size month price)) ≡ accepted (checked v) → span_in v ≡ Some a
+        → ResentImage z p size month (with_span (accepted (checked (Within a))))
     at_ends v a e has =
         let r = agrees.resent s cs (book_in z) contents_are p size month price v a e has in
         record { at_lowest = ap with_span r.at_lowest; at_highest = ap with_span r.at_highest }
 
-    resends : (a : Answer) → answer_to z (check p size month price) ≡ a → 0 < (answer_span a).lowest → ResentImage z p size month (with_span a)
+    resends : (a : Answer) → answer_to z (question (check p size month price)) ≡ a → 0 < (answer_span a).lowest → ResentImage z p size month (with_span a)
     resends (refused n) e l = absurd (omega arith)
-    resends (opened b) e l = absurd (omega arith)
-    resends filed e l = absurd (omega arith)
-    resends (ended b) e l = absurd (omega arith)
-    resends (checked Free) e l = absurd (omega arith)
-    resends (checked (Within a)) e l = at_ends (Within a) a e refl
-    resends (checked (Below a)) e l = let r = at_ends (Below a) a e refl in record { at_lowest = r.at_lowest; at_highest = r.at_highest }
-    resends (checked (Above a)) e l = let r = at_ends (Above a) a e refl in record { at_lowest = r.at_lowest; at_highest = r.at_highest }
+    resends (accepted (opened b)) e l = absurd (omega arith)
+    resends (accepted filed) e l = absurd (omega arith)
+    resends (accepted (ended b)) e l = absurd (omega arith)
+    resends (accepted (checked Free)) e l = absurd (omega arith)
+    resends (accepted (checked (Within a))) e l = at_ends (Within a) a e refl
+    resends (accepted (checked (Below a))) e l = let r = at_ends (Below a) a e refl in record { at_lowest = r.at_lowest; at_highest = r.at_highest }
+    resends (accepted (checked (Above a))) e l = let r = at_ends (Above a) a e refl in record { at_lowest = r.at_lowest; at_highest = r.at_highest }
 
 -- no number is 1 where no answer is refusal 1
 numbers_are : (rs es : List ℕ) (l : List Answer)
@@ -121,7 +124,7 @@ never_unsound_lem : (s : Start) (cs : List Call) (vs : List Seen) (z : List ℕ)
 never_unsound_lem s cs vs z run =
     ap (every (λ v. not (eqb v.number unsound))) (seen_is s cs vs z run)
     ∙ numbers_are no_renewed no_events (answers (founded s) cs)
-    ∙ theorems.never_unsound s (accepted s cs vs z run) cs
+    ∙ theorems.never_unsound s (is_founded s cs vs z run) cs
 
 -- ---- two lists
 module _ (s : Start) (g : ℕ) (cs ds : List Call) (us vs : List Seen) (y z : List ℕ) (one : ImageRun s cs us y) (other : ImageRun s ds vs z)
@@ -132,9 +135,9 @@ module _ (s : Start) (g : ℕ) (cs ds : List Call) (us vs : List Seen) (y z : Li
   same_group : group_at (view (book_in y)) g ≡ group_at (view (book_in z)) g
   same_group = agrees.same_group s g cs ds (book_in y) (book_in z) (contents_are s cs us y one) (contents_are s ds vs z other) same
 
-  same_answers : (p size month price : ℕ) → group_of p ≡ g → answer_to y (check p size month price) ≡ answer_to z (check p size month price)
+  same_answers : (p size month price : ℕ) → group_of p ≡ g → answer_to y (question (check p size month price)) ≡ answer_to z (question (check p size month price))
   same_answers =
-      agrees.same_checks s g cs ds (book_in y) (book_in z) (contents_are s cs us y one) (contents_are s ds vs z other) same (accepted s cs us y one)
+      agrees.same_checks s g cs ds (book_in y) (book_in z) (contents_are s cs us y one) (contents_are s ds vs z other) same (is_founded s cs us y one)
 
 pub whole_images : WholeImages
 whole_images =
@@ -144,14 +147,14 @@ whole_images =
       compared = λ s cs vs z run. agrees.compared s cs (book_in z) (contents_are s cs vs z run);
       spanned =
           λ s cs vs z run p size month price.
-          ap (λ (r : Record). with_span (respond r (check p size month price)).answer) (contents_are s cs vs z run);
+          ap (λ (r : Record). with_span (ask r (check p size month price))) (contents_are s cs vs z run);
       never_unsound = never_unsound_lem;
       together = λ s cs vs z run. agrees.together s cs (book_in z) (contents_are s cs vs z run);
       coupled = λ s cs vs z run. agrees.coupled s cs (book_in z) (contents_are s cs vs z run);
       resent = λ s cs vs z run p size month price. resends s cs vs z run p size month price _ refl;
       stays_free =
           λ s cs ds us vs y z one other.
-          agrees.stays_free s (accepted s cs us y one) cs ds (book_in y) (book_in z) (contents_are s cs us y one) (contents_are s _ vs z other);
+          agrees.stays_free s (is_founded s cs us y one) cs ds (book_in y) (book_in z) (contents_are s cs us y one) (contents_are s _ vs z other);
       same_day = same_day;
       same_group = same_group;
       same_spans = λ s g cs ds us vs y z one other same p size month price e. ap with_span (same_answers s g cs ds us vs y z one other same p size month price e);
@@ -172,7 +175,7 @@ pub no_image : NoImage
 no_image =
     record {
       changes = λ ws now c n no r.
-          (r.number ∙ ap answer_number (unsound-answer ws no c), r.unchanged unsound (unsound-refusal (view (book_in ws)) c (no_sound ws no)));
-      checks = λ ws p size month price no. ap answer_number (unsound-answer ws no (check p size month price));
-      spans = λ ws p size month price no. ap with_span (unsound-answer ws no (check p size month price));
+          (r.number ∙ ap answer_number (unsound-answer ws no (change c)), r.unchanged unsound (unsound-refusal (view (book_in ws)) (change c) (no_sound ws no)));
+      checks = λ ws p size month price no. ap answer_number (unsound-answer ws no (question (check p size month price)));
+      spans = λ ws p size month price no. ap with_span (unsound-answer ws no (question (check p size month price)));
     }

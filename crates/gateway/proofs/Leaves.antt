@@ -1,4 +1,4 @@
--- A call on the book in words, refused or accepted: what gives all that the call by pointer promises.
+-- A change of the book in words, refused or accepted: what gives all that the call by pointer promises.
 use Prim.Native.Nat.{ℕ}
 use mathlib.Core.Path.{◌≡◌, refl, sym, ◌∙◌, ap}
 use mathlib.Core.Bool.{Bool, true, false}
@@ -10,7 +10,7 @@ use Rattle.grain.specs.declared.refusals.Refusal.{Refusal}
 use Rattle.record.specs.State.{Record}
 use Rattle.record.specs.Founding.{Start}
 use Rattle.record.specs.Sound.{is_sound}
-use Rattle.record.specs.Record.{Call, opening, sheet, end, check, Answer, refused, opened, filed, ended, checked, refusal, answer, answer_by, state_by, respond}
+use Rattle.record.specs.Record.{Change, change, Accepted, refused, accepted, refusal, answer, next_by, answer_by, respond}
 use Rattle.record.proofs.StaysSound.{founded_sound, respond_sound}
 use Rattle.book.specs.declared.Book.{Book}
 use Rattle.book.specs.Book.{view}
@@ -23,32 +23,16 @@ use Rattle.image.specs.Put.{Put}
 use Rattle.gateway.specs.Written.{Writes}
 use Rattle.gateway.specs.Calls.{answer_number, renewed_after, events_after, RespondsImage, no_renewed, no_events, FoundsImage}
 
-abbrev is_accepted : Answer → Bool
-is_accepted (refused n) = false
-is_accepted (opened l) = true
-is_accepted filed = true
-is_accepted (ended l) = true
-is_accepted (checked v) = true
-
--- an accepted call answers no refusal
-accepted_answer : (r : Record) (c : Call) → is_accepted (answer r c) ≡ true
-unfolding answer
-accepted_answer r (opening d) = refl
-accepted_answer r (sheet p ms ss) = refl
-accepted_answer r end = refl
-accepted_answer r (check p size month price) = refl
-
 -- what answers a refusal is refused, and changes nothing
-stays_by : (o : Option ℕ) (r : Record) (c : Call) (n : ℕ) → refused n ≡ answer_by o (answer r c) → r ≡ state_by o r c
+stays_by : (o : Option ℕ) (r : Record) (c : Change) (n : ℕ) → refused n ≡ answer_by o (answer r (change c)) → r ≡ next_by o r c
 stays_by (Some m) r c n e = refl
-stays_by None r c n e =
-    let x : ◌≡◌ {A = Bool} false true = ap is_accepted e ∙ accepted_answer r c in cc
+stays_by None r c n e = cc
 
-refused_stays : (r : Record) (c : Call) (n : ℕ) → refused n ≡ (respond r c).answer → r ≡ (respond r c).state
+refused_stays : (r : Record) (c : Change) (n : ℕ) → refused n ≡ (respond r (change c)).answer → r ≡ (respond r (change c)).state
 unfolding respond
-refused_stays r c n e = stays_by (refusal r c) r c n e
+refused_stays r c n e = stays_by (refusal r (change c)) r c n e
 
-refused_image : (ws : List ℕ) (c : Call) (n : ℕ) (z : Book) → Responds (book_in ws) c (refused n) z → RespondsImage ws c n ws
+refused_image : (ws : List ℕ) (c : Change) (n : ℕ) (z : Book) → Responds (book_in ws) c (refused n) z → RespondsImage ws c n ws
 refused_image ws c n z r =
     record {
       number = ap answer_number r.answer;
@@ -59,14 +43,14 @@ refused_image ws c n z r =
     }
 
 -- what answers no refusal is not refused
-none-by : (o : Option ℕ) (a : Answer) → is_accepted (answer_by o a) ≡ true → o ≡ None
-none-by (Some m) a e = let x : ◌≡◌ {A = Bool} false true = e in cc
-none-by None a e = refl
+none-by : (o : Option ℕ) (a b : Accepted) → accepted a ≡ answer_by o b → o ≡ None
+none-by (Some m) a b e = cc
+none-by None a b e = refl
 
-module _ (ws : List ℕ) (c : Call) (a : Answer) (z : Book) (yes : is_accepted a ≡ true) (r : Responds (book_in ws) c a z) where
-  not_refused : refusal (view (book_in ws)) c ≡ None
+module _ (ws : List ℕ) (c : Change) (a : Accepted) (z : Book) (r : Responds (book_in ws) c (accepted a) z) where
+  not_refused : refusal (view (book_in ws)) (change c) ≡ None
   unfolding respond
-  not_refused = none-by (refusal (view (book_in ws)) c) (answer (view (book_in ws)) c) (sym (ap is_accepted r.answer) ∙ yes)
+  not_refused = none-by (refusal (view (book_in ws)) (change c)) a (answer (view (book_in ws)) (change c)) r.answer
 
   -- an unsound book refuses every call
   sound_before : is_sound (view (book_in ws)) ≡ true
@@ -74,12 +58,13 @@ module _ (ws : List ℕ) (c : Call) (a : Answer) (z : Book) (yes : is_accepted a
     where
       by : (t : Bool) → is_sound (view (book_in ws)) ≡ t → t ≡ true
       by true e = refl
-      by false e = cc (not_refused, unsound-refusal (view (book_in ws)) c e)
+      by false e = cc (not_refused, unsound-refusal (view (book_in ws)) (change c) e)
 
   sound_after : is_sound (view z) ≡ true
-  sound_after = rw r.state (respond_sound (view (book_in ws)) c sound_before)
+  sound_after = rw r.state (respond_sound (view (book_in ws)) (change c) sound_before)
 
-  accepted_image : (now : List ℕ) → answer_number a ≡ 0 → Put z (renewed_after a (renewed_in ws)) (events_after a (events_in ws)) now
+  accepted_image : (now : List ℕ) → answer_number (accepted a) ≡ 0
+      → Put z (renewed_after (accepted a) (renewed_in ws)) (events_after (accepted a) (events_in ws)) now
       → RespondsImage ws c 0 now
   accepted_image now zero p =
       record {
@@ -90,15 +75,15 @@ module _ (ws : List ℕ) (c : Call) (a : Answer) (z : Book) (yes : is_accepted a
         unchanged = λ m e. cc (not_refused, e);
       }
 
--- what is written of such a call, where putting leaves what the answer a.now says
-module _ {A : Type 0} (gives : A → Answer) (ws : List ℕ) (c : Call) (z : Book) (post : MutBor (List ℕ) → Bor A → MutBor (List ℕ) → Type 0)
-    (yes : (a : A) → is_accepted (gives a) ≡ true) (zero : (a : A) → answer_number (gives a) ≡ 0)
+-- what is written of such a change, where putting leaves what the answer a.now says
+module _ {A : Type 0} (gives : A → Accepted) (ws : List ℕ) (c : Change) (z : Book) (post : MutBor (List ℕ) → Bor A → MutBor (List ℕ) → Type 0)
+    (zero : (a : A) → answer_number (accepted (gives a)) ≡ 0)
     (puts : (lent : MutBor (List ℕ)) (a : Bor A) (left : MutBor (List ℕ)) → post lent a left
-    → Put z (renewed_after (gives a.now) (renewed_in lent.now)) (events_after (gives a.now) (events_in lent.now)) left.now) where
+    → Put z (renewed_after (accepted (gives a.now)) (renewed_in lent.now)) (events_after (accepted (gives a.now)) (events_in lent.now)) left.now) where
   pub written_image : (result : Result A Refusal) (n : ℕ) (now : List ℕ) → Responds (book_in ws) c (answer_as gives result) z
       → Writes post result ws n now → RespondsImage ws c n now
   written_image (Ok a) n now r (n-is, p) =
-      rw n-is (accepted_image ws c (gives a) z (yes a) r now (zero a) (rw (p.lends, p.shows, p.leaves) at (puts p.lent p.shown p.left p.met)))
+      rw n-is (accepted_image ws c (gives a) z r now (zero a) (rw (p.lends, p.shows, p.leaves) at (puts p.lent p.shown p.left p.met)))
   written_image (Err e) n now r (n-is, now-is) = rw (n-is, now-is) (refused_image ws c (number_of e) z r)
 
 -- a founding

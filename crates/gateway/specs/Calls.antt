@@ -7,7 +7,7 @@ use Rattle.grain.specs.Bare.{no_span, span_or}
 use Rattle.grain.specs.declared.check.Span.{Span}
 use Rattle.record.specs.State.{group_count}
 use Rattle.record.specs.Founding.{Start, founding_refusal, founded}
-use Rattle.record.specs.Record.{Call, check, Answer, refused, opened, filed, ended, checked, refusal, respond}
+use Rattle.record.specs.Record.{Change, check, Call, change, question, opened, filed, ended, checked, Answer, refused, accepted, refusal, respond}
 use Rattle.book.specs.Book.{view}
 use Rattle.image.specs.Places.{event_words}
 use Rattle.image.specs.Image.{flag_word, book_in}
@@ -17,58 +17,58 @@ use Rattle.gateway.specs.declared.spans.Spanned.{Spanned}
 -- the number that a call returns: 0 where it is accepted, and a check's verdict
 abbrev pub answer_number : Answer → ℕ
 answer_number (refused n) = n
-answer_number (opened l) = 0
-answer_number filed = 0
-answer_number (ended l) = 0
-answer_number (checked v) = verdict_number v
+answer_number (accepted (opened l)) = 0
+answer_number (accepted filed) = 0
+answer_number (accepted (ended l)) = 0
+answer_number (accepted (checked v)) = verdict_number v
 
 -- what stands in renewed after a call, of what stood there: an accepted opening's answer, in a word for each product
 abbrev pub renewed_after : Answer → List ℕ → List ℕ
 renewed_after (refused n) rs = rs
-renewed_after (opened l) rs = map flag_word l
-renewed_after filed rs = rs
-renewed_after (ended l) rs = rs
-renewed_after (checked v) rs = rs
+renewed_after (accepted (opened l)) rs = map flag_word l
+renewed_after (accepted filed) rs = rs
+renewed_after (accepted (ended l)) rs = rs
+renewed_after (accepted (checked v)) rs = rs
 
 -- what stands in events after a call: what an accepted end did, in three words for each group
 abbrev pub events_after : Answer → List ℕ → List ℕ
 events_after (refused n) es = es
-events_after (opened l) es = es
-events_after filed es = es
-events_after (ended l) es = flat_map words_of_event l
-events_after (checked v) es = es
+events_after (accepted (opened l)) es = es
+events_after (accepted filed) es = es
+events_after (accepted (ended l)) es = flat_map words_of_event l
+events_after (accepted (checked v)) es = es
 
 -- what the Record of the book in the words answers
 abbrev pub answer_to : List ℕ → Call → Answer
 answer_to ws c = (respond (view (book_in ws)) c).answer
 
--- A call that may change the book: the number, the book in the words after it, and the answers beside it are the Record's;
--- a refused call leaves the very words.
-pub record RespondsImage (ws : List ℕ) (c : Call) (n : ℕ) (now : List ℕ) : Type 0 where
-  pub number : n ≡ answer_number (answer_to ws c)
-  pub state : view (book_in now) ≡ (respond (view (book_in ws)) c).state
-  pub renewed : renewed_in now ≡ renewed_after (answer_to ws c) (renewed_in ws)
-  pub events : events_in now ≡ events_after (answer_to ws c) (events_in ws)
-  pub unchanged : (m : ℕ) → refusal (view (book_in ws)) c ≡ Some m → now ≡ ws
+-- A change: the number, the book in the words after it, and the answers beside it are the Record's;
+-- a refused one leaves the very words.
+pub record RespondsImage (ws : List ℕ) (c : Change) (n : ℕ) (now : List ℕ) : Type 0 where
+  pub number : n ≡ answer_number (answer_to ws (change c))
+  pub state : view (book_in now) ≡ (respond (view (book_in ws)) (change c)).state
+  pub renewed : renewed_in now ≡ renewed_after (answer_to ws (change c)) (renewed_in ws)
+  pub events : events_in now ≡ events_after (answer_to ws (change c)) (events_in ws)
+  pub unchanged : (m : ℕ) → refusal (view (book_in ws)) (change c) ≡ Some m → now ≡ ws
 
 -- the number that a check returns, which is lent the words to read only
 abbrev pub image_check : List ℕ → ℕ → ℕ → ℕ → ℕ → ℕ
-image_check ws p size month price = answer_number (answer_to ws (check p size month price))
+image_check ws p size month price = answer_number (answer_to ws (question (check p size month price)))
 
 -- the span of an answer, two zeros where it has none
 abbrev pub answer_span : Answer → Span
 answer_span (refused n) = no_span
-answer_span (opened l) = no_span
-answer_span filed = no_span
-answer_span (ended l) = no_span
-answer_span (checked v) = span_or (span_in v)
+answer_span (accepted (opened l)) = no_span
+answer_span (accepted filed) = no_span
+answer_span (accepted (ended l)) = no_span
+answer_span (accepted (checked v)) = span_or (span_in v)
 
 abbrev pub with_span : Answer → Spanned
 with_span a = record { answer = answer_number a; lowest = (answer_span a).lowest; highest = (answer_span a).highest }
 
 -- what a check with its span returns
 abbrev pub image_span : List ℕ → ℕ → ℕ → ℕ → ℕ → Spanned
-image_span ws p size month price = with_span (answer_to ws (check p size month price))
+image_span ws p size month price = with_span (answer_to ws (question (check p size month price)))
 
 abbrev pub no_renewed : List ℕ
 no_renewed = replicate product_count 0

@@ -9,7 +9,7 @@ use Rattle.grain.specs.declared.check.Verdict.TheVariants.{Free}
 use Rattle.record.specs.Refusals.{unsound}
 use Rattle.record.specs.State.{group_of, group_at}
 use Rattle.record.specs.Founding.{Start, founded}
-use Rattle.record.specs.Record.{Call, check, Answer, checked, answers}
+use Rattle.record.specs.Record.{Change, check, Call, change, question, checked, Answer, accepted, answers}
 use Rattle.record.specs.History.{SameFor}
 use Rattle.record.specs.Theorems.{after, history_of, check_after, Together, BetweenLimits}
 use Rattle.book.specs.Book.{view}
@@ -38,14 +38,14 @@ seen_of rs es (a ∷ l) =
 -- A list of calls on an image, each on the words that the one before left. Of each call it holds what its contract says, and no more.
 pub data ImageTrace : List ℕ → List Call → List Seen → List ℕ → Type 0 where
   done : {ws : List ℕ} → ImageTrace ws [] [] ws
-  changes : {ws now z : List ℕ} {c : Call} {cs : List Call} {vs : List Seen} (n : ℕ)
-      → RespondsImage ws c n now → ImageTrace now cs vs z → ImageTrace ws (c ∷ cs) (sees n now ∷ vs) z
+  changes : {ws now z : List ℕ} {c : Change} {cs : List Call} {vs : List Seen} (n : ℕ)
+      → RespondsImage ws c n now → ImageTrace now cs vs z → ImageTrace ws (change c ∷ cs) (sees n now ∷ vs) z
   checks : {ws z : List ℕ} {p size month price : ℕ} {cs : List Call} {vs : List Seen} (n : ℕ)
       → n ≡ image_check ws p size month price → ImageTrace ws cs vs z
-      → ImageTrace ws (check p size month price ∷ cs) (sees n ws ∷ vs) z
+      → ImageTrace ws (question (check p size month price) ∷ cs) (sees n ws ∷ vs) z
   spans : {ws z : List ℕ} {p size month price : ℕ} {cs : List Call} {vs : List Seen} (r : Spanned)
       → r ≡ image_span ws p size month price → ImageTrace ws cs vs z
-      → ImageTrace ws (check p size month price ∷ cs) (sees r.answer ws ∷ vs) z
+      → ImageTrace ws (question (check p size month price) ∷ cs) (sees r.answer ws ∷ vs) z
 
 -- from an accepted founding on any words
 pub record ImageRun (s : Start) (cs : List Call) (vs : List Seen) (z : List ℕ) : Type 0 where
@@ -78,7 +78,7 @@ pub record WholeImages : Type 0 where
   pub coupled : (s : Start) (cs : List Call) (vs : List Seen) (z : List ℕ) → ImageRun s cs vs z
       → (p q i j m n x y : ℕ) (v w : Verdict) → group_of p ≡ group_of q
       → BetweenLimits (view (book_in z)) p m x → BetweenLimits (view (book_in z)) q n y
-      → answer_to z (check p i m x) ≡ checked v → answer_to z (check q j n y) ≡ checked w → is_within v ≡ is_within w
+      → answer_to z (question (check p i m x)) ≡ accepted (checked v) → answer_to z (question (check q j n y)) ≡ accepted (checked w) → is_within v ≡ is_within w
   -- a span that a check shows can be sent again
   pub resent : (s : Start) (cs : List Call) (vs : List Seen) (z : List ℕ) → ImageRun s cs vs z
       → (p size month price : ℕ) → 0 < (image_span z p size month price).lowest
@@ -87,7 +87,7 @@ pub record WholeImages : Type 0 where
   pub stays_free :
       (s : Start) (cs ds : List Call) (us vs : List Seen) (y z : List ℕ) → ImageRun s cs us y → ImageRun s (cs ++ ds) vs z
       → (p q i j month x w : ℕ) (v : Verdict)
-      → answer_to y (check p i month x) ≡ checked Free → answer_to z (check q j month w) ≡ checked v → v ≡ Free
+      → answer_to y (question (check p i month x)) ≡ accepted (checked Free) → answer_to z (question (check q j month w)) ≡ accepted (checked v) → v ≡ Free
   -- two lists with the same edition and founding limits that agree on the accepted openings and ends and on one group's sheets of each day:
   -- the same day is open after both, or none
   pub same_day :
@@ -109,7 +109,7 @@ pub record WholeImages : Type 0 where
 
 -- Words that hold no book: every call but a founding returns 1 and leaves them as they are.
 pub record NoImage : Type 0 where
-  pub changes : (ws now : List ℕ) (c : Call) (n : ℕ) → is_image ws ≡ false → RespondsImage ws c n now → (n ≡ unsound) × (now ≡ ws)
+  pub changes : (ws now : List ℕ) (c : Change) (n : ℕ) → is_image ws ≡ false → RespondsImage ws c n now → (n ≡ unsound) × (now ≡ ws)
   pub checks : (ws : List ℕ) (p size month price : ℕ) → is_image ws ≡ false → image_check ws p size month price ≡ unsound
   pub spans :
       (ws : List ℕ) (p size month price : ℕ) → is_image ws ≡ false

@@ -1,5 +1,6 @@
 -- The theorem over whole lists of calls, proved.
-use Rattle.std.proofs.Common.{◌≡◌, refl, ap, sym, ◌∙◌, ℕ, true, not, List, ◌++◌, None, Result, Ok, Err}
+use Rattle.std.proofs.Common.{◌≡◌, ap, sym, ◌∙◌, ℕ, true, not, List, ◌++◌, None, Result, Ok, Err}
+use Rattle.grain.specs.Refusals.{number_of}
 use Rattle.grain.specs.declared.refusals.Refusal.{Refusal}
 use Rattle.grain.proofs.RefusalNumbers.{refusal_numbered, numbered_back}
 use Rattle.grain.specs.Lists.{every}
@@ -9,7 +10,7 @@ use Rattle.grain.specs.declared.check.Verdict.TheVariants.{Free}
 use Rattle.record.specs.Refusals.{unsound}
 use Rattle.record.specs.State.{Record, group_of, group_at}
 use Rattle.record.specs.Founding.{Start, founding_refusal, founded}
-use Rattle.record.specs.Record.{Call, Answer, refused, opened, filed, ended, checked, state_after, answers}
+use Rattle.record.specs.Record.{Call, Answer, state_after, answers}
 use Rattle.record.specs.History.{kept, SameFor}
 use Rattle.record.specs.Theorems.{after, history_of, is_refusal, has_raised, BetweenLimits}
 use Rattle.record.proofs.Proved.{theorems}
@@ -22,8 +23,8 @@ use Rattle.history.proofs.Follows.{follows}
 
 -- ---- one list
 module _ (s : Start) (cs : List Call) (rs : List Answer) (z : Book) (run : Run s cs rs z) where
-  accepted : founding_refusal s ≡ None
-  accepted = run.founds.0
+  is_founded : founding_refusal s ≡ None
+  is_founded = run.founds.0
 
   fresh_is : view run.fresh ≡ founded s
   fresh_is = run.founds.1
@@ -38,43 +39,36 @@ module _ (s : Start) (cs : List Call) (rs : List Answer) (z : Book) (run : Run s
   history_is = ap (kept cs) answers_are
 
   never_unsound_lem : every (λ a. not (is_refusal unsound a)) rs ≡ true
-  never_unsound_lem = ap (every (λ a. not (is_refusal unsound a))) answers_are ∙ theorems.never_unsound s accepted cs
+  never_unsound_lem = ap (every (λ a. not (is_refusal unsound a))) answers_are ∙ theorems.never_unsound s is_founded cs
 
   keeps_edition_lem : z.edition ≡ s.edition
   keeps_edition_lem = (agrees.compared s cs z contents_are).edition ∙ theorems.keeps_edition s cs
 
   never_raised_lem : s.edition ≡ 2014 → every (λ a. not (has_raised a)) rs ≡ true
-  never_raised_lem e = ap (every (λ a. not (has_raised a))) answers_are ∙ theorems.never_raised s accepted e cs
+  never_raised_lem e = ap (every (λ a. not (has_raised a))) answers_are ∙ theorems.never_raised s is_founded e cs
 
 coupled : (s : Start) (cs : List Call) (rs : List Answer) (z : Book) → Run s cs rs z
     → (p q i j m n x y : ℕ) (v w : Verdict) → group_of p ≡ group_of q
     → BetweenLimits (view z) p m x → BetweenLimits (view z) q n y
     → Checks z p i m x (Ok v) → Checks z q j n y (Ok w) → is_within v ≡ is_within w
 coupled s cs rs z run p q i j m n x y v w e a b h k =
-    agrees.coupled s cs z (contents_are s cs rs z run) p q i j m n x y v w e a b (sym h.answer) (sym k.answer)
+    agrees.coupled s cs z (contents_are s cs rs z run) p q i j m n x y v w e a b (sym h) (sym k)
 
 stays_free : (s : Start) (cs ds : List Call) (rs ts : List Answer) (y z : Book) → Run s cs rs y → Run s (cs ++ ds) ts z
     → (p q i j month x w : ℕ) (v : Verdict) → Checks y p i month x (Ok Free) → Checks z q j month w (Ok v) → v ≡ Free
 stays_free s cs ds rs ts y z one other p q i j month x w v h k =
-    agrees.stays_free s (accepted s cs rs y one) cs ds y z (contents_are s cs rs y one) (contents_are s (cs ++ ds) ts z other) p q i j month x w v
-    (sym h.answer) (sym k.answer)
+    agrees.stays_free s (is_founded s cs rs y one) cs ds y z (contents_are s cs rs y one) (contents_are s (cs ++ ds) ts z other) p q i j month x w v
+    (sym h) (sym k)
 
 -- ---- two lists
--- the result of the check that is answered so; no other call's answer is asked for
-abbrev result_from : Answer → Result Verdict Refusal
-result_from (refused n) = Err (refusal_numbered n)
-result_from (opened l) = Ok Free
-result_from filed = Ok Free
-result_from (ended l) = Ok Free
-result_from (checked v) = Ok v
-
-result_back : (r : Result Verdict Refusal) → result_from (checked_as r) ≡ r
-result_back (Ok v) = refl
-result_back (Err r) = ap Err (numbered_back r)
-
 -- two checks that answer the same have the same result
 checked_same : (r s : Result Verdict Refusal) → checked_as r ≡ checked_as s → r ≡ s
-checked_same r s e = sym (result_back r) ∙ ap result_from e ∙ result_back s
+checked_same (Ok v) (Ok w) e = let same : v ≡ w = cc in ap Ok same
+checked_same (Ok v) (Err s) e = cc
+checked_same (Err r) (Ok w) e = cc
+checked_same (Err r) (Err s) e =
+    let same : number_of r ≡ number_of s = cc in
+    ap Err (sym (numbered_back r) ∙ ap refusal_numbered same ∙ numbered_back s)
 
 module _ (s : Start) (g : ℕ) (cs ds : List Call) (rs ts : List Answer) (y z : Book)
     (one : Run s cs rs y) (other : Run s ds ts z) (same : SameFor g (kept cs rs) (kept ds ts)) where
@@ -90,8 +84,8 @@ module _ (s : Start) (g : ℕ) (cs ds : List Call) (rs ts : List Answer) (y z : 
   same_checks : (p size month price : ℕ) (v w : Result Verdict Refusal) → group_of p ≡ g
       → Checks y p size month price v → Checks z p size month price w → v ≡ w
   same_checks p size month price v w e h k =
-      let both = agrees.same_checks s g cs ds y z (contents_are s cs rs y one) (contents_are s ds ts z other) histories (accepted s cs rs y one) p size month price e in
-      checked_same v w (h.answer ∙ both ∙ sym k.answer)
+      let both = agrees.same_checks s g cs ds y z (contents_are s cs rs y one) (contents_are s ds ts z other) histories (is_founded s cs rs y one) p size month price e in
+      checked_same v w (h ∙ both ∙ sym k)
 
 pub whole_history : WholeHistory
 whole_history =
@@ -106,7 +100,7 @@ whole_history =
       coupled = coupled;
       resent =
           λ s cs rs z run p size month price v allowed h.
-          agrees.resent s cs z (contents_are s cs rs z run) p size month price v allowed (sym h.answer);
+          agrees.resent s cs z (contents_are s cs rs z run) p size month price v allowed (sym h);
       stays_free = stays_free;
       same_day = same_day;
       same_group = same_group;

@@ -4,7 +4,7 @@ use Rattle.grain.specs.declared.check.Verdict.{Verdict}
 use Rattle.grain.specs.declared.refusals.Refusal.{Refusal}
 use Rattle.record.specs.declared.Day.{Day}
 use Rattle.record.specs.declared.Event.{Event}
-use Rattle.record.specs.Record.{Call, opening, sheet, end, check, Answer}
+use Rattle.record.specs.Record.{opening, sheet, end, check, Call, change, question, Answer}
 use Rattle.book.specs.declared.Book.{Book}
 use Rattle.opening.specs.Opens.{opened_as, Opens}
 use Rattle.filing.specs.Files.{filed_as, Files}
@@ -14,10 +14,10 @@ use Rattle.checking.specs.Checks.{checked_as, Checks}
 pub data Trace : Book → List Call → List Answer → Book → Type 0 where
   done : {b : Book} → Trace b [] [] b
   opens : {b y z : Book} {d : Day} {cs : List Call} {rs : List Answer} (r : Result (List Bool) Refusal)
-      → Opens b d r y → Trace y cs rs z → Trace b (opening d ∷ cs) (opened_as r ∷ rs) z
+      → Opens b d r y → Trace y cs rs z → Trace b (change (opening d) ∷ cs) (opened_as r ∷ rs) z
   files : {b y z : Book} {p : ℕ} {ms ss : List ℕ} {cs : List Call} {rs : List Answer} (r : Result (Unit {0}) Refusal)
-      → Files b p ms ss r y → Trace y cs rs z → Trace b (sheet p ms ss ∷ cs) (filed_as r ∷ rs) z
+      → Files b p ms ss r y → Trace y cs rs z → Trace b (change (sheet p ms ss) ∷ cs) (filed_as r ∷ rs) z
   ends : {b y z : Book} {cs : List Call} {rs : List Answer} (r : Result (List Event) Refusal)
-      → Ends b r y → Trace y cs rs z → Trace b (end ∷ cs) (ended_as r ∷ rs) z
+      → Ends b r y → Trace y cs rs z → Trace b (change end ∷ cs) (ended_as r ∷ rs) z
   checks : {b z : Book} {p size month price : ℕ} {cs : List Call} {rs : List Answer} (r : Result Verdict Refusal)
-      → Checks b p size month price r → Trace b cs rs z → Trace b (check p size month price ∷ cs) (checked_as r ∷ rs) z
+      → Checks b p size month price r → Trace b cs rs z → Trace b (question (check p size month price) ∷ cs) (checked_as r ∷ rs) z

@@ -10,7 +10,7 @@ use Rattle.grain.proofs.Every.{any_mapped}
 use Rattle.record.specs.declared.Day.{Day}
 use Rattle.record.specs.State.{Common, group_count, initial, group_table}
 use Rattle.record.specs.Opening.{is_next_season, is_other_season, is_renewed, open_product, has_new_limits, open_group}
-use Rattle.record.specs.Record.{opening, opened, answer, next, next_common, next_group}
+use Rattle.record.specs.Record.{opening, change, opened, answer, next, next_common, next_group}
 use Rattle.record.specs.History.{products_of}
 use Rattle.windows.specs.declared.Window.{Window}
 use Rattle.windows.specs.Windows.{kept_of, shown, empty_window}
@@ -88,6 +88,6 @@ module _ (b : Book) (d : Day) (z : Book) (on : OpenedOn b d z) where
   opened_view = next-view b z (opening d) common_opened group_opened
 
 -- the answers, product by product
-pub renewed-answer : (b : Book) (d : Day) → opened (map (renewed_on b d) all_products) ≡ answer (view b) (opening d)
+pub renewed-answer : (b : Book) (d : Day) → opened (map (renewed_on b d) all_products) ≡ answer (view b) (change (opening d))
 unfolding answer view view_common view_group view_held group_table is_renewed
 renewed-answer b d = refl

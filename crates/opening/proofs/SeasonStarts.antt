@@ -11,7 +11,7 @@ use Rattle.grain.proofs.Below.{each}
 use Rattle.record.specs.declared.Day.{Day}
 use Rattle.record.specs.State.{initial, Record, no_group, group_table, group_count, group_at}
 use Rattle.record.specs.Opening.{has_new_limits, open_group}
-use Rattle.record.specs.Record.{opening, refused, opened, refusal, next, next_group, respond}
+use Rattle.record.specs.Record.{opening, change, opened, refused, accepted, refusal, next, next_group, respond}
 use Rattle.record.specs.History.{products_of}
 use Rattle.book.specs.declared.Book.{Book}
 use Rattle.book.specs.Book.{view_common, view}
@@ -33,13 +33,13 @@ unfolding group_table
 all_no_lem = each (λ g. is_one_renewed (replicate product_count false) (products_of g) ≡ false) group_count search
 
 -- the answers of an opening that is answered with some
-answers_are : (r : Result (List Bool) Refusal) (l : List Bool) → opened_as r ≡ opened l → renewed_in r ≡ l
+answers_are : (r : Result (List Bool) Refusal) (l : List Bool) → opened_as r ≡ accepted (opened l) → renewed_in r ≡ l
 answers_are (Ok m) l e = cc
 answers_are (Err n) l e = cc
 
 -- a refused one says no for every product
 silent : (r : Result (List Bool) Refusal) (n : ℕ) → opened_as r ≡ refused n → renewed_in r ≡ replicate product_count false
-silent (Ok m) n e = let z : opened m ≡ refused n = e in cc
+silent (Ok m) n e = let z : accepted (opened m) ≡ refused n = e in cc
 silent (Err m) n e = refl
 
 module _ (b after : Book) (d : Day) (r : Result (List Bool) Refusal) (opens : Opens b d r after) (g : ℕ) (l : g < group_count) where
@@ -53,16 +53,16 @@ module _ (b after : Book) (d : Day) (r : Result (List Bool) Refusal) (opens : Op
 
   started : Started
   unfolding view respond open_group
-  started = go (refusal (view b) (opening d)) refl
+  started = go (refusal (view b) (change (opening d))) refl
     where
-      go : (o : Option ℕ) → refusal (view b) (opening d) ≡ o → Started
+      go : (o : Option ℕ) → refusal (view b) (change (opening d)) ≡ o → Started
       go (Some n) e =
           let no : is_one_renewed (renewed_in r) (products_of g) ≡ false = rw (silent r n (rw e at opens.answer)) (all_no_lem g l) in
           let same = opens.unchanged n e in
           (rw (no, same), rw (no, same))
       go None e =
           let renewed : renewed_in r ≡ map (renewed_on b d) all_products =
-          answers_are r _ (rw e at opens.answer ∙ sym (renewed-answer b d)) in
+          answers_are r _ (rw e at opens.answer ∙ ap accepted (sym (renewed-answer b d))) in
           let left : group_at (view after) g ≡ open_group (view_common b) d (group_at (view b) g) =
           ap (λ (t : Record). group_at t g) (rw e at opens.state) ∙ group_next (view b) d g in
           let x : is_one_renewed (renewed_in r) (products_of g) ≡ has_new_limits (view_common b) d (group_at (view b) g) =

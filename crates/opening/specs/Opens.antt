@@ -6,7 +6,7 @@ use Rattle.grain.specs.Amounts.{window_length, expanded_of, season_of}
 use Rattle.grain.specs.declared.amounts.Limit.{Limit}
 use Rattle.grain.specs.declared.refusals.Refusal.{Refusal}
 use Rattle.record.specs.declared.Day.{Day}
-use Rattle.record.specs.Record.{opening, Answer, opened}
+use Rattle.record.specs.Record.{opening, opened, Answer}
 use Rattle.windows.specs.Windows.{empty_window, shown}
 use Rattle.book.specs.declared.product.Product.{Product as Held}
 use Rattle.book.specs.declared.Standing.{Standing}

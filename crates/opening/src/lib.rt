@@ -2,7 +2,7 @@
 #![tactic(auto)]
 
 ghost use Rattle.std.specs.Prelude.{◌≡◌, true};
-ghost use Rattle.record.specs.Record.{answer, next as next_state, opening as call, opened as answered};
+ghost use Rattle.record.specs.Record.{answer, next as next_state, change, opening as call, opened as answered};
 ghost use Rattle.record.specs.Sound.{is_sound};
 ghost use Rattle.book.specs.Book.{view};
 ghost use Rattle.opening.specs.Opens.{Opens};
@@ -34,7 +34,7 @@ pub fn opening(b: &mut Book, day: Day) -> Result<[bool; PRODUCT_COUNT], Refusal>
 fn accept(b: &mut Book, dates: &Dates) -> [bool; PRODUCT_COUNT]
     requires sound { is_sound (view b.old) ≡ true }
     requires last { dates.now.last ≡ b.old.opened }
-    ensures { (answered result ≡ answer (view b.old) (call dates.now.day)) × (view b.new ≡ next_state (view b.old) (call dates.now.day)) }
+    ensures { (answered result ≡ answer (view b.old) (change (call dates.now.day))) × (view b.new ≡ next_state (view b.old) (call dates.now.day)) }
 {
     let change = SeasonChange::of(dates);
     let renewed = open_products(change, &mut b.products);

@@ -1,7 +1,7 @@
 // What refuses an opening: 1, 2, 3, 4, 16 in this order.
 ghost use Rattle.std.specs.Prelude.{◌≡◌};
 ghost use Rattle.std.specs.Result.{ForOk};
-ghost use Rattle.record.specs.Record.{opening, refusal};
+ghost use Rattle.record.specs.Record.{opening, change, refusal};
 ghost use Rattle.book.specs.Book.{view};
 ghost use Rattle.book.specs.Calls.{refusal_in};
 
@@ -14,7 +14,7 @@ impl Dates {
     // The first of the five that applies, or the day with the last opened one of the book.
     #[tactic(auto, using(crate::proofs::Refused::early_opening, crate::proofs::Refused::late_opening))]
     pub(crate) fn of(b: &Book, day: Day) -> Result<Dates, Refusal>
-        ensures refusal { refusal_in result ≡ refusal (view b.now) (opening day) }
+        ensures refusal { refusal_in result ≡ refusal (view b.now) (change (opening day)) }
         ensures dates { ForOk result (λ dates. (dates.last ≡ b.now.opened) × (dates.day ≡ day)) }
     {
         b.expect(false)?;

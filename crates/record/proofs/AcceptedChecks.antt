@@ -10,7 +10,7 @@ use Rattle.grain.specs.declared.check.Verdict.{Verdict}
 use Rattle.record.specs.State.{Record}
 use Rattle.record.specs.Check.{listed, terms_tests, order_tests, judged}
 use Rattle.record.specs.Sound.{is_sound}
-use Rattle.record.specs.Record.{check, checked, terms_in, tests, refusal, answer, answer_by, respond}
+use Rattle.record.specs.Record.{check, question, checked, accepted, terms_in, tests, refusal, answer, answer_by, respond, ask}
 use Rattle.record.proofs.Cleared.{accepted_clear}
 
 module _ (r : Record) (p size month : ℕ) where
@@ -22,21 +22,21 @@ module _ (r : Record) (p size month : ℕ) where
     pub passes : is_price p size price ≡ true
     pub is : judged (terms_in r p size) month price ≡ v
 
-  accepted : (price : ℕ) (v : Verdict) → (respond r (check p size month price)).answer ≡ checked v
-      → (refusal r (check p size month price) ≡ None) × (judged (terms_in r p size) month price ≡ v)
+  not_refused : (price : ℕ) (v : Verdict) → ask r (check p size month price) ≡ accepted (checked v)
+      → (refusal r (question (check p size month price)) ≡ None) × (judged (terms_in r p size) month price ≡ v)
   unfolding respond answer
-  accepted price v e = go (refusal r (check p size month price)) e
+  not_refused price v e = go (refusal r (question (check p size month price))) e
     where
-      go : (o : Option ℕ) → answer_by o (checked (judged (terms_in r p size) month price)) ≡ checked v
+      go : (o : Option ℕ) → answer_by o (checked (judged (terms_in r p size) month price)) ≡ accepted (checked v)
           → (o ≡ None) × (judged (terms_in r p size) month price ≡ v)
       go (Some n) h = (cc, cc)
       go None h = (refl, cc)
 
-  pub passed : (price : ℕ) (v : Verdict) → (respond r (check p size month price)).answer ≡ checked v → Passed price v
+  pub passed : (price : ℕ) (v : Verdict) → ask r (check p size month price) ≡ accepted (checked v) → Passed price v
   unfolding tests terms_tests order_tests
   passed price v e =
-      let a = accepted price v e in
-      let c = accepted_clear r (check p size month price) a.0 in
+      let a = not_refused price v e in
+      let c = accepted_clear r (question (check p size month price)) a.0 in
       record {
         sound = c.0;
         is_open = not-false _ c.1.0;

@@ -8,7 +8,7 @@ use Rattle.record.specs.Refusals.{Test, when, first, unsound}
 use Rattle.record.specs.State.{Record}
 use Rattle.record.specs.Check.{terms_tests, order_tests, judged}
 use Rattle.record.specs.Sound.{is_sound}
-use Rattle.record.specs.Record.{check, checked, terms_in, tests, refusal, terms_refusal, answer, answer_by, order_answer, respond}
+use Rattle.record.specs.Record.{check, question, checked, refused, terms_in, tests, refusal, terms_refusal, answer, answer_by, order_answer, respond, ask}
 
 -- the first of two rows of tests
 first_before : (l m : List Test) (n : ℕ) → first l ≡ Some n → first (l ++ m) ≡ Some n
@@ -30,16 +30,17 @@ first-after (t ∷ l) m e = go t.applies (first-after l m) e
     go false later h = later h
 
 module _ (r : Record) (p size month price : ℕ) where
-  pub refused_terms : (n : ℕ) → terms_refusal r p size ≡ Some n → refusal r (check p size month price) ≡ Some n
-  unfolding terms_refusal refusal tests
+  pub refused_terms : (n : ℕ) → terms_refusal r p size ≡ Some n → ask r (check p size month price) ≡ refused n
+  unfolding terms_refusal refusal tests respond
   refused_terms n e =
-      first_before (when (not (is_sound r)) unsound ∷ terms_tests r.common p size) (order_tests (terms_in r p size) month price) n e
+      ap (λ (o : Option ℕ). answer_by o (answer r (question (check p size month price))))
+      (first_before (when (not (is_sound r)) unsound ∷ terms_tests r.common p size) (order_tests (terms_in r p size) month price) n e)
 
-  past_terms : terms_refusal r p size ≡ None → refusal r (check p size month price) ≡ first (order_tests (terms_in r p size) month price)
+  past_terms : terms_refusal r p size ≡ None → refusal r (question (check p size month price)) ≡ first (order_tests (terms_in r p size) month price)
   unfolding terms_refusal refusal tests
   past_terms e =
       first-after (when (not (is_sound r)) unsound ∷ terms_tests r.common p size) (order_tests (terms_in r p size) month price) e
 
-  pub on_terms : terms_refusal r p size ≡ None → (respond r (check p size month price)).answer ≡ order_answer (terms_in r p size) month price
+  pub on_terms : terms_refusal r p size ≡ None → ask r (check p size month price) ≡ order_answer (terms_in r p size) month price
   unfolding respond answer
   on_terms e = ap (λ (o : Option ℕ). answer_by o (checked (judged (terms_in r p size) month price))) (past_terms e)

@@ -11,7 +11,7 @@ use Rattle.grain.proofs.Tests.{and_left, and_right}
 use Rattle.record.specs.Refusals.{Test, when, first, unsound}
 use Rattle.record.specs.State.{Record}
 use Rattle.record.specs.Sound.{is_sound}
-use Rattle.record.specs.Record.{Call, Answer, tests, refusal, answer_by}
+use Rattle.record.specs.Record.{Call, Accepted, tests, refusal, answer_by}
 use Rattle.record.specs.Theorems.{is_refusal}
 
 -- none of the tests applies
@@ -32,11 +32,11 @@ pub accepted_clear : (r : Record) (c : Call) → refusal r c ≡ None → (is_so
 unfolding refusal
 accepted_clear r c e = let k = cleared (when (not (is_sound r)) unsound ∷ tests r c) e in (not-false _ k.0, k.1)
 
-module _ (n : ℕ) (a : Answer) (other : not (is_refusal n a) ≡ true) where
+module _ (n : ℕ) (a : Accepted) where
   pub not_returned : (l : List Test) → every (λ t. not (eqb t.number n)) l ≡ true
       → not (is_refusal n (answer_by (first l) a)) ≡ true
   unfolding every
-  not_returned [] e = other
+  not_returned [] e = refl
   not_returned (t ∷ l) e = go t.applies (not_returned l (and_right _ _ e))
     where
       go : (b : Bool) → not (is_refusal n (answer_by (first l) a)) ≡ true

@@ -10,7 +10,7 @@ use Rattle.grain.proofs.Judged.{within_by}
 use Rattle.record.specs.State.{Level, initial, expanded, Record, group_table, group_of, group_at, product_in, limit_at}
 use Rattle.record.specs.Check.{judged}
 use Rattle.record.specs.Sound.{is_expanded}
-use Rattle.record.specs.Record.{check, checked, respond}
+use Rattle.record.specs.Record.{check, checked, accepted, ask}
 use Rattle.record.specs.History.{products_of}
 use Rattle.record.specs.Theorems.{OneLevel, Together, BetweenLimits}
 use Rattle.record.proofs.AcceptedChecks.{passed}
@@ -36,7 +36,7 @@ module _ (r : Record) (p month price : ℕ) (w : BetweenLimits r p month price) 
   by_level tick expanded = within_by tick w.settlement _ price ∙ le-leb _ _ w.not_beyond_expanded
 
   -- what an accepted check answers
-  within_by_level : (size : ℕ) (v : Verdict) → (respond r (check p size month price)).answer ≡ checked v
+  within_by_level : (size : ℕ) (v : Verdict) → ask r (check p size month price) ≡ accepted (checked v)
       → is_within v ≡ is_expanded (group_at r (group_of p)).level
   unfolding judged
   within_by_level size v e =
@@ -45,7 +45,7 @@ module _ (r : Record) (p month price : ℕ) (w : BetweenLimits r p month price) 
 
 pub coupled : (r : Record) (p q i j m n x y : ℕ) (v w : Verdict) → group_of p ≡ group_of q
     → BetweenLimits r p m x → BetweenLimits r q n y
-    → (respond r (check p i m x)).answer ≡ checked v → (respond r (check q j n y)).answer ≡ checked w → is_within v ≡ is_within w
+    → ask r (check p i m x) ≡ accepted (checked v) → ask r (check q j n y) ≡ accepted (checked w) → is_within v ≡ is_within w
 coupled r p q i j m n x y v w e a b f h =
     within_by_level r p m x a i v f
     ∙ ap (λ (g : ℕ). is_expanded (group_at r g).level) e

@@ -9,8 +9,8 @@ use Rattle.record.specs.State.{Day, Level, Record, initial, expanded}
 use Rattle.record.specs.Edition.{of2014}
 use Rattle.record.specs.Founding.{founded}
 use Rattle.record.specs.End.{Event, event_of, Quiet, Triggered, Held, Reverted}
-use Rattle.record.specs.Record.{Call, sheet}
-use Rattle.record.proofs.Examples.{corn, soybeans, oil, meal, chicago_wheat, kc_wheat, oats, rice, corn_group, complex, wheats, jul24, aug24, sep24, oct24, dec24, mar25, may25, jul25, june3, june4, june5, june6, corn_at200, a_book, one_contract, full_day, not_corn, corn_day, flat, not_complex, complex_day, state_of, limits, lead, Outcome, outcome, in_one_run}
+use Rattle.record.specs.Record.{Call}
+use Rattle.record.proofs.Examples.{corn, soybeans, oil, meal, chicago_wheat, kc_wheat, oats, rice, corn_group, complex, wheats, jul24, aug24, sep24, oct24, dec24, mar25, may25, jul25, june3, june4, june5, june6, corn_at200, a_book, files, one_contract, full_day, not_corn, corn_day, flat, not_complex, complex_day, state_of, limits, lead, Outcome, outcome, in_one_run}
 
 -- the example book, of 2014
 abbrev old_book : Record
@@ -72,7 +72,7 @@ last_crop_month = in_one_run _ _ _ _ refl
 abbrev september_sixth : Day → List ℕ → List Call
 september_sixth d settlements =
     full_day d
-    (sheet corn (jul24 ∷ dec24 ∷ mar25 ∷ may25 ∷ jul25 ∷ contract_month 2025 9 ∷ []) settlements ∷ [])
+    (files corn (jul24 ∷ dec24 ∷ mar25 ∷ may25 ∷ jul25 ∷ contract_month 2025 9 ∷ []) settlements ∷ [])
     not_corn
 
 -- outside the first N it does not trigger, nor together with one of them
@@ -95,7 +95,7 @@ one_of_each_of_two = in_one_run _ _ _ _ refl
 -- Soybeans in one month, Oil in two
 abbrev one_and_two : ℕ → List ℕ → List Call
 one_and_two s o =
-    one_contract soybeans jul24 s ∷ sheet oil (aug24 ∷ oct24 ∷ []) o ∷ one_contract meal jul25 4000 ∷ []
+    one_contract soybeans jul24 s ∷ files oil (aug24 ∷ oct24 ∷ []) o ∷ one_contract meal jul25 4000 ∷ []
 
 -- Soybeans do not trigger, so that Oil leads, though in a farther month; the three expand
 pub lead_of_triggering :

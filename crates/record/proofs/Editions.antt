@@ -14,26 +14,26 @@ use Rattle.record.specs.Edition.{Conditions, conditions_of}
 use Rattle.record.specs.Founding.{Start, founding_refusal, founded}
 use Rattle.record.specs.End.{Lead, Quiet, Triggered, Held, Reverted, leading, led_by, triggering, event_of, group_event, is_raised}
 use Rattle.record.specs.Sound.{is_expanded, is_sound_group, is_sound}
-use Rattle.record.specs.Record.{Call, opening, sheet, end, check, Answer, refusal, answer, next_common, next, state_by, answer_by, respond, state_after, answers}
+use Rattle.record.specs.Record.{Change, opening, sheet, end, check, Call, change, question, Accepted, accepted, refusal, answer, next_common, next, next_by, answer_by, respond, state_after, answers}
 use Rattle.record.specs.Theorems.{after, has_raised}
 use Rattle.record.proofs.SoundCalls.{facts}
 use Rattle.record.proofs.StaysSound.{founded_sound, respond_sound}
 
 -- ---- the edition stays
-next-edition : (r : Record) (c : Call) → (next r c).common.edition ≡ r.common.edition
+next-edition : (r : Record) (c : Change) → (next r c).common.edition ≡ r.common.edition
 unfolding next next_common
 next-edition r (opening d) = refl
 next-edition r (sheet p ms ss) = refl
 next-edition r end = refl
-next-edition r (check p size month price) = refl
 
 respond-edition : (r : Record) (c : Call) → (respond r c).state.common.edition ≡ r.common.edition
 unfolding respond
-respond-edition r c = go (refusal r c)
+respond-edition r (change c) = go (refusal r (change c))
   where
-    go : (o : Option ℕ) → (state_by o r c).common.edition ≡ r.common.edition
+    go : (o : Option ℕ) → (next_by o r c).common.edition ≡ r.common.edition
     go (Some n) = refl
     go None = next-edition r c
+respond-edition r (question q) = refl
 
 edition-kept : (r : Record) (cs : List Call) → (state_after r cs).common.edition ≡ r.common.edition
 unfolding state_after
@@ -78,14 +78,14 @@ none_raised c [] e t = refl
 none_raised c (g ∷ gs) e t = rw (not_raised_lem c g e (and_left _ _ t), none_raised c gs e (and_right _ _ t))
 
 -- ---- from one call to a list
-own_answer : (r : Record) (c : Call) → is_sound r ≡ true → r.common.edition ≡ 2014 → not (has_raised (answer r c)) ≡ true
+own_answer : (r : Record) (c : Call) → is_sound r ≡ true → r.common.edition ≡ 2014 → not (has_raised (accepted (answer r c))) ≡ true
 unfolding answer
-own_answer r (opening d) t e = refl
-own_answer r (sheet p ms ss) t e = refl
-own_answer r end t e = rw (none_raised r.common r.groups e (facts r t).groups)
-own_answer r (check p size month price) t e = refl
+own_answer r (change (opening d)) t e = refl
+own_answer r (change (sheet p ms ss)) t e = refl
+own_answer r (change end) t e = rw (none_raised r.common r.groups e (facts r t).groups)
+own_answer r (question (check p size month price)) t e = refl
 
-answered : (o : Option ℕ) (a : Answer) → not (has_raised a) ≡ true → not (has_raised (answer_by o a)) ≡ true
+answered : (o : Option ℕ) (a : Accepted) → not (has_raised (accepted a)) ≡ true → not (has_raised (answer_by o a)) ≡ true
 answered (Some n) a t = refl
 answered None a t = t
 

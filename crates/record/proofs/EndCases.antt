@@ -8,13 +8,13 @@ use Rattle.record.specs.State.{Day, initial, expanded}
 use Rattle.record.specs.Edition.{of2023}
 use Rattle.record.specs.Founding.{Start, founded}
 use Rattle.record.specs.End.{event_of, Quiet, Triggered, Held, Reverted, Raised}
-use Rattle.record.specs.Record.{Call, opening, sheet, end, ended}
-use Rattle.record.proofs.Examples.{corn, soybeans, oil, meal, corn_group, complex, jul24, aug24, sep24, oct24, dec24, jan25, mar25, may25, jul25, june3, june4, june5, june6, june7, june26, june27, on, a_book, one_contract, unmoved, full_day, corn_months, not_corn, corn_day, flat, not_complex, complex_day, state_of, answers_after, limits, lead, outcome, in_one_run}
+use Rattle.record.specs.Record.{Call, ended, accepted}
+use Rattle.record.proofs.Examples.{corn, soybeans, oil, meal, corn_group, complex, jul24, aug24, sep24, oct24, dec24, jan25, mar25, may25, jul25, june3, june4, june5, june6, june7, june26, june27, on, a_book, opens, files, ends, one_contract, unmoved, full_day, corn_months, not_corn, corn_day, flat, not_complex, complex_day, state_of, answers_after, limits, lead, outcome, in_one_run}
 
 -- ---- the first N
 -- a day with Corn sheets of five contracts
 abbrev five_contracts : Day → List ℕ → List Call
-five_contracts d settlements = full_day d (sheet corn (jul24 ∷ sep24 ∷ dec24 ∷ mar25 ∷ jul25 ∷ []) settlements ∷ []) not_corn
+five_contracts d settlements = full_day d (files corn (jul24 ∷ sep24 ∷ dec24 ∷ mar25 ∷ jul25 ∷ []) settlements ∷ []) not_corn
 
 -- the fifth moves by I and triggers
 pub fifth_contract :
@@ -75,7 +75,7 @@ abbrev nine_contracts : Day → List ℕ → List Call
 nine_contracts d settlements =
     full_day d
     (one_contract soybeans jul25 8000
-    ∷ sheet oil (jul24 ∷ aug24 ∷ sep24 ∷ oct24 ∷ dec24 ∷ jan25 ∷ mar25 ∷ may25 ∷ jul25 ∷ []) settlements
+    ∷ files oil (jul24 ∷ aug24 ∷ sep24 ∷ oct24 ∷ dec24 ∷ jan25 ∷ mar25 ∷ may25 ∷ jul25 ∷ []) settlements
     ∷ one_contract meal jul25 4000
     ∷ [])
     not_complex
@@ -114,11 +114,11 @@ expanded_corn = corn_day june3 flat ++ corn_day june4 (4200 ∷ 4000 ∷ 4000 �
 pub whole_answer :
     answers_after a_book
     (corn_day june3 flat
-    ++ opening june4
-    ∷ sheet corn corn_months (4200 ∷ 4000 ∷ 4000 ∷ 4000 ∷ 4000 ∷ 4000 ∷ [])
+    ++ opens june4
+    ∷ files corn corn_months (4200 ∷ 4000 ∷ 4000 ∷ 4000 ∷ 4000 ∷ 4000 ∷ [])
     ∷ map unmoved not_corn)
-    (end ∷ [])
-    ≡ ended (Triggered (lead corn jul24) ∷ Quiet ∷ Quiet ∷ Quiet ∷ Quiet ∷ []) ∷ []
+    (ends ∷ [])
+    ≡ accepted (ended (Triggered (lead corn jul24) ∷ Quiet ∷ Quiet ∷ Quiet ∷ Quiet ∷ [])) ∷ []
 unfolding state_of
 whole_answer = refl
 
@@ -311,7 +311,7 @@ cap_reached = in_one_run _ _ _ _ refl
 -- Soybeans in two months, and Oil in one between them
 abbrev two_and_one : List ℕ → ℕ → List Call
 two_and_one s o =
-    sheet soybeans (jul24 ∷ sep24 ∷ []) s ∷ one_contract oil aug24 o ∷ one_contract meal jul25 4000 ∷ []
+    files soybeans (jul24 ∷ sep24 ∷ []) s ∷ one_contract oil aug24 o ∷ one_contract meal jul25 4000 ∷ []
 
 -- Oil's nearer month leads Soybeans' farther one
 pub nearest_month_leads :

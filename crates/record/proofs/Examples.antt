@@ -23,7 +23,7 @@ use Rattle.record.specs.Edition.{conditions_of}
 use Rattle.record.specs.End.{Event, Quiet, Lead, event_of, group_event, end_product, end_group}
 use Rattle.record.specs.Check.{terms_tests, order_tests, judged}
 use Rattle.record.specs.Sound.{is_sound_sheet, is_sound_window, is_sound_product, is_sound_group, is_sound_date, is_sound}
-use Rattle.record.specs.Record.{Call, opening, sheet, end, Answer, refused, opened, filed, ended, checked, is_outstanding, tests, refusal, answer, next_common, next_group, next, Result, respond, state_after, answers}
+use Rattle.record.specs.Record.{opening, sheet, end, check, Call, change, question, opened, filed, ended, checked, Answer, refused, accepted, is_outstanding, tests, refusal, answer, next_common, next_group, next, Result, respond, state_after, answers}
 use Rattle.record.specs.History.{kept_from}
 
 -- ---- products, groups, contract months and days by name
@@ -156,10 +156,25 @@ collected_by counts = a_book_with (λ p. replicate (counts p) (usual_settlement 
 abbrev pub collected : ℕ → Record
 collected n = collected_by (λ p. n)
 
+-- ---- calls
+abbrev pub opens : Day → Call
+opens d = change (opening d)
+
+-- product, months, settlements
+abbrev pub files : ℕ → List ℕ → List ℕ → Call
+files p ms ss = change (sheet p ms ss)
+
+abbrev pub ends : Call
+ends = change end
+
+-- product, size, month, price
+abbrev pub checks : ℕ → ℕ → ℕ → ℕ → Call
+checks p size month price = question (check p size month price)
+
 -- ---- days as lists of calls
 -- a sheet of one contract
 abbrev pub one_contract : ℕ → ℕ → ℕ → Call
-one_contract p month settlement = sheet p (month ∷ []) (settlement ∷ [])
+one_contract p month settlement = files p (month ∷ []) (settlement ∷ [])
 
 -- July 2025 at the product's settlement above
 abbrev pub unmoved : ℕ → Call
@@ -167,7 +182,7 @@ unmoved p = one_contract p jul25 (usual_settlement p)
 
 -- a day that is opened, gets the given sheets and unmoved ones of the given products, and is ended
 abbrev pub full_day : Day → List Call → List ℕ → List Call
-full_day d sheets others = opening d ∷ sheets ++ map unmoved others ++ end ∷ []
+full_day d sheets others = opens d ∷ sheets ++ map unmoved others ++ ends ∷ []
 
 -- a day on which no product moves
 abbrev pub quiet_day : Day → List Call
@@ -182,7 +197,7 @@ not_corn = soybeans ∷ oil ∷ meal ∷ chicago_wheat ∷ kc_wheat ∷ oats ∷
 
 -- a day with these settlements of the six; no other product moves
 abbrev pub corn_day : Day → List ℕ → List Call
-corn_day d settlements = full_day d (sheet corn corn_months settlements ∷ []) not_corn
+corn_day d settlements = full_day d (files corn corn_months settlements ∷ []) not_corn
 
 -- a day with Corn's July 2025 at a settlement; no other product moves
 abbrev pub corn_july_day : Day → ℕ → List Call
@@ -240,10 +255,10 @@ lead p m = record { month = m; product = p }
 abbrev events_of : ℕ → List Answer → List Event
 events_of g [] = []
 events_of g (refused n ∷ l) = events_of g l
-events_of g (opened new ∷ l) = events_of g l
-events_of g (filed ∷ l) = events_of g l
-events_of g (ended events ∷ l) = get_or events g Quiet ∷ events_of g l
-events_of g (checked v ∷ l) = events_of g l
+events_of g (accepted (opened new) ∷ l) = events_of g l
+events_of g (accepted filed ∷ l) = events_of g l
+events_of g (accepted (ended events) ∷ l) = get_or events g Quiet ∷ events_of g l
+events_of g (accepted (checked v) ∷ l) = events_of g l
 
 -- What a list of calls makes of a group.
 pub record Outcome : Type 0 where
@@ -309,4 +324,4 @@ renewal_by t =
     }
 
 abbrev pub renewal : Record → List Call → Day → Renewal
-renewal r before d = renewal_by (respond (state_of r before) (opening d))
+renewal r before d = renewal_by (respond (state_of r before) (opens d))

@@ -1,5 +1,4 @@
 pub mod Maps
-pub mod Checks
 pub mod TrueDays
 pub mod GroupTable
 pub mod CheckTerms

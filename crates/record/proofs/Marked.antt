@@ -9,8 +9,8 @@ use Rattle.grain.specs.Margin.{gives, season_limits}
 use Rattle.grain.specs.declared.check.Verdict.TheVariants.{Within}
 use Rattle.record.specs.State.{initial, expanded, is_spot_on}
 use Rattle.record.specs.End.{Quiet, Triggered, Held, Reverted, Raised}
-use Rattle.record.specs.Record.{opening, check, checked}
-use Rattle.record.proofs.Examples.{corn, soybeans, oil, meal, oats, rice, corn_group, complex, jul24, may25, jul25, june3, june4, june5, june6, june26, june27, a_book, corn_day, flat, complex_day, state_of, answers_after, span, limits, lead, outcome, in_one_run}
+use Rattle.record.specs.Record.{checked, accepted}
+use Rattle.record.proofs.Examples.{corn, soybeans, oil, meal, oats, rice, corn_group, complex, jul24, may25, jul25, june3, june4, june5, june6, june26, june27, a_book, opens, checks, corn_day, flat, complex_day, state_of, answers_after, span, limits, lead, outcome, in_one_run}
 
 pub record Marked : Type 0 where
   -- E: Corn I 200, E 320
@@ -98,9 +98,9 @@ pub record Marked : Type 0 where
       }
   -- the next day a price of each at its E is within
   pub n₂ :
-      answers_after a_book (complex_day june3 8000 5000 4000 ++ complex_day june4 8000 5200 4000 ++ opening june5 ∷ [])
-      (check soybeans 0 jul25 8600 ∷ check oil 0 jul25 5500 ∷ check meal 0 jul25 4300 ∷ [])
-      ≡ checked (Within (span 7400 8600)) ∷ checked (Within (span 4900 5500)) ∷ checked (Within (span 3700 4300)) ∷ []
+      answers_after a_book (complex_day june3 8000 5000 4000 ++ complex_day june4 8000 5200 4000 ++ opens june5 ∷ [])
+      (checks soybeans 0 jul25 8600 ∷ checks oil 0 jul25 5500 ∷ checks meal 0 jul25 4300 ∷ [])
+      ≡ accepted (checked (Within (span 7400 8600))) ∷ accepted (checked (Within (span 4900 5500))) ∷ accepted (checked (Within (span 3700 4300))) ∷ []
 
 pub marked : Marked
 unfolding state_of season_limits

@@ -7,7 +7,7 @@ use Rattle.std.specs.Prelude.{None}
 use Rattle.record.specs.State.{Record, group_of, group_at}
 use Rattle.record.specs.Founding.{Start, founding_refusal, founded}
 use Rattle.record.specs.Sound.{is_sound}
-use Rattle.record.specs.Record.{Call, check, tests, refusal, answer, respond}
+use Rattle.record.specs.Record.{check, Call, tests, refusal, answer, respond, ask}
 use Rattle.record.specs.History.{SameFor}
 use Rattle.record.specs.Theorems.{after, history_of, check_after, Theorems}
 use Rattle.record.proofs.Replayed.{replayed}
@@ -21,7 +21,7 @@ use Rattle.record.proofs.Coupled.{together, coupled}
 -- a check on a sound Record reads what is common and the product's group
 check_reads : (r t : Record) (p size month price : ℕ) → is_sound r ≡ true → is_sound t ≡ true
     → r.common ≡ t.common → group_at r (group_of p) ≡ group_at t (group_of p)
-    → (respond r (check p size month price)).answer ≡ (respond t (check p size month price)).answer
+    → ask r (check p size month price) ≡ ask t (check p size month price)
 unfolding respond refusal tests answer
 check_reads r t p size month price s u c g = rw (s, u, c, g)
 

@@ -10,12 +10,11 @@ use Rattle.record.specs.State.{Day, Sheet, Product, Group, Common, Record, with_
 use Rattle.record.specs.Founding.{Start, founded}
 use Rattle.record.specs.Opening.{open_group}
 use Rattle.record.specs.Sheet.{contracts, file_product, file_group}
-use Rattle.record.specs.Record.{Call, opening, sheet, end, check, tests, refusal, next, next_common, next_group, respond, state_by, state_after}
+use Rattle.record.specs.Record.{Change, opening, sheet, end, Call, change, question, tests, refusal, next, next_common, next_group, next_by, respond, state_after}
 use Rattle.record.specs.History.{ProductSheet, Entry, a_day, add, sheet_among}
 use Rattle.record.specs.Replay.{common_after, over, product_with, group_with, group_after, replay}
 use Rattle.record.specs.Theorems.{after, history_of}
 use Rattle.record.proofs.Maps.{map-map, map_same}
-use Rattle.record.proofs.Checks.{check_same}
 use Rattle.record.proofs.Cleared.{accepted_clear}
 use Rattle.record.proofs.Kept.{add_unless, history_from, history_kept}
 
@@ -89,21 +88,25 @@ module _ (r₀ : Record) (f : IsFresh r₀) where
   accept_end [] o = cc
   accept_end (a_day k ∷ es) o = end_on r₀ k.day k.sheets k.is_ended es o
 
-  accepted : (c : Call) (es : List Entry) → refusal (replay es r₀) c ≡ None → next (replay es r₀) c ≡ replay (add c es) r₀
+  accepted : (c : Change) (es : List Entry) → refusal (replay es r₀) (change c) ≡ None → next (replay es r₀) c ≡ replay (add c es) r₀
   unfolding tests replay
   accepted (opening d) es e = accept_opening r₀ d es
-  accepted (sheet p ms ss) es e = accept_sheet p ms ss es (not-false _ (accepted_clear (replay es r₀) (sheet p ms ss) e).1.0)
-  accepted end es e = accept_end es (not-false _ (accepted_clear (replay es r₀) end e).1.0)
-  accepted (check p size month price) es e = check_same (replay es r₀) p size month price
+  accepted (sheet p ms ss) es e = accept_sheet p ms ss es (not-false _ (accepted_clear (replay es r₀) (change (sheet p ms ss)) e).1.0)
+  accepted end es e = accept_end es (not-false _ (accepted_clear (replay es r₀) (change end) e).1.0)
 
   stepped : (c : Call) (es : List Entry)
       → (respond (replay es r₀) c).state ≡ replay (add_unless (refusal (replay es r₀) c) c es) r₀
   unfolding respond
-  stepped c es = go (refusal (replay es r₀) c) refl
+  stepped (change c) es = go (refusal (replay es r₀) (change c)) refl
     where
-      go : (o : Option ℕ) → refusal (replay es r₀) c ≡ o → state_by o (replay es r₀) c ≡ replay (add_unless o c es) r₀
+      go : (o : Option ℕ) → refusal (replay es r₀) (change c) ≡ o → next_by o (replay es r₀) c ≡ replay (add_unless o (change c) es) r₀
       go (Some n) e = refl
       go None e = accepted c es e
+  stepped (question q) es = go (refusal (replay es r₀) (question q))
+    where
+      go : (o : Option ℕ) → replay es r₀ ≡ replay (add_unless o (question q) es) r₀
+      go (Some n) = refl
+      go None = refl
 
   replayed_from : (es : List Entry) (cs : List Call)
       → state_after (replay es r₀) cs ≡ replay (history_from es (replay es r₀) cs) r₀

@@ -17,7 +17,7 @@ use Rattle.grain.proofs.Judged.{limited_span, is_free, within_only}
 use Rattle.grain.proofs.Spanned.{every_span}
 use Rattle.record.specs.State.{Record}
 use Rattle.record.specs.Check.{Terms, listed, terms_tests, order_tests, judged}
-use Rattle.record.specs.Record.{check, checked, terms_in, tests, refusal, answer, respond}
+use Rattle.record.specs.Record.{check, checked, accepted, terms_in, tests, refusal, answer, respond, ask}
 use Rattle.record.specs.Theorems.{Resent}
 use Rattle.record.proofs.AcceptedChecks.{Passed, passed}
 use Rattle.record.proofs.Settled.{rests}
@@ -44,7 +44,7 @@ module _ (r : Record) (p size month : ℕ) where
 
   -- the same contract at another price that passes 8
   again : (price other : ℕ) (v : Verdict) → Passed r p size month price v → is_price p size other ≡ true
-      → (respond r (check p size month other)).answer ≡ checked (judged on month other)
+      → ask r (check p size month other) ≡ accepted (checked (judged on month other))
   unfolding respond refusal tests terms_tests order_tests answer
   again price other v k e = rw (k.sound, k.is_open, k.offered, k.is_listed, e)
 
@@ -68,12 +68,12 @@ module _ (r : Record) (p size month : ℕ) where
           every_span p size x on.limit k.offered rest.settled rest.fit
 
       at_end : (end : ℕ) → is_price p size end ≡ true → is_within (verdict false on.tick x on.limit end) ≡ true
-          → (respond r (check p size month end)).answer ≡ checked (Within (span_by on.tick x on.limit))
+          → ask r (check p size month end) ≡ accepted (checked (Within (span_by on.tick x on.limit)))
       at_end end passes within =
           again price end v k passes
-          ∙ ap checked (judged_limited end ∙ within_only _ _ within (limited_span on.tick x on.limit end))
+          ∙ ap (λ v. accepted (checked v)) (judged_limited end ∙ within_only _ _ within (limited_span on.tick x on.limit end))
 
-      elsewhere : (other : ℕ) (w : Verdict) → (respond r (check p size month other)).answer ≡ checked w
+      elsewhere : (other : ℕ) (w : Verdict) → ask r (check p size month other) ≡ accepted (checked w)
           → is_within w ≡ (leb (span_by on.tick x on.limit).lowest other && leb other (span_by on.tick x on.limit).highest)
       elsewhere other w e =
           let j = passed r p size month other w e in
@@ -97,7 +97,7 @@ module _ (r : Record) (p size month : ℕ) where
           }
 
 pub resent : (r : Record) (p size month price : ℕ) (v : Verdict) (s : Span)
-    → (respond r (check p size month price)).answer ≡ checked v → span_in v ≡ Some s → Resent r p size month s
+    → ask r (check p size month price) ≡ accepted (checked v) → span_in v ≡ Some s → Resent r p size month s
 resent r p size month price v s e has =
     let k = passed r p size month price v e in
     let found = some_of _ k.is_listed in

@@ -4,16 +4,16 @@ use mathlib.Core.Bool.{true, false}
 use mathlib.Core.List.{List, [], ◌∷◌}
 use Rattle.std.specs.Prelude.{Option, Some, None}
 use Rattle.record.specs.State.{Sheet}
-use Rattle.record.specs.Record.{Call, opening, sheet, end, check}
+use Rattle.record.specs.Record.{Call}
 use Rattle.record.specs.History.{Milestone, day_opened, openings_and_ends, sheets_of, products_of, SameFor}
 use Rattle.record.specs.Theorems.{history_of}
-use Rattle.record.proofs.Examples.{corn, soybeans, oil, meal, chicago_wheat, kc_wheat, oats, rice, complex, jul24, jul25, june3, june4, june5, corn_at200, one_contract, corn_months, flat, state_of}
+use Rattle.record.proofs.Examples.{corn, soybeans, oil, meal, chicago_wheat, kc_wheat, oats, rice, complex, jul24, jul25, june3, june4, june5, corn_at200, opens, files, ends, checks, one_contract, corn_months, flat, state_of}
 
 -- a day is ended; on the next Oil's sheet is in
 abbrev some_calls : List Call
 some_calls =
-    opening june3
-    ∷ sheet corn corn_months flat
+    opens june3
+    ∷ files corn corn_months flat
     ∷ one_contract soybeans jul25 8000
     ∷ one_contract oil jul25 5000
     ∷ one_contract meal jul25 4000
@@ -21,36 +21,36 @@ some_calls =
     ∷ one_contract kc_wheat jul25 4000
     ∷ one_contract oats jul25 1920
     ∷ one_contract rice jul25 3000
-    ∷ end
-    ∷ opening june4
+    ∷ ends
+    ∷ opens june4
     ∷ one_contract oil jul25 5200
     ∷ []
 
 -- other sheets of the other groups, another order, checks, and calls that are refused
 abbrev other_calls : List Call
 other_calls =
-    end
-    ∷ opening june3
-    ∷ opening june4
+    ends
+    ∷ opens june3
+    ∷ opens june4
     ∷ one_contract meal jul25 4000
     ∷ one_contract rice jul24 2999
     ∷ one_contract oil jul25 5000
-    ∷ end
+    ∷ ends
     ∷ one_contract oil jul25 5001
     ∷ one_contract oats jul24 1922
-    ∷ check soybeans 0 jul25 8000
+    ∷ checks soybeans 0 jul25 8000
     ∷ one_contract corn jul24 4002
     ∷ one_contract kc_wheat jul24 4004
     ∷ one_contract soybeans jul25 8000
     ∷ one_contract chicago_wheat jul24 4006
-    ∷ end
-    ∷ opening june3
-    ∷ opening june4
-    ∷ check soybeans 0 jul25 8400
+    ∷ ends
+    ∷ opens june3
+    ∷ opens june4
+    ∷ checks soybeans 0 jul25 8400
     ∷ one_contract corn jul24 4202
     ∷ one_contract oil jul25 5200
     ∷ one_contract meal jul25 9000
-    ∷ opening june5
+    ∷ opens june5
     ∷ []
 
 -- the openings and ends of both, latest first

@@ -5,8 +5,8 @@ use mathlib.Core.Bool.{Bool, true, false}
 use mathlib.Core.List.{List, [], ◌∷◌, ◌++◌}
 use lib.ListN.{replicate}
 use Rattle.record.specs.State.{Day}
-use Rattle.record.specs.Record.{Call, sheet, opened}
-use Rattle.record.proofs.Examples.{corn, soybeans, oil, meal, chicago_wheat, kc_wheat, oats, rice, jul25, nov25, dec25, on, of2025, a_book, collected, one_contract, full_day, quiet_day, days_of2025, state_of, Limits, limits, renewal}
+use Rattle.record.specs.Record.{Call, opened, accepted}
+use Rattle.record.proofs.Examples.{corn, soybeans, oil, meal, chicago_wheat, kc_wheat, oats, rice, jul25, nov25, dec25, on, files, of2025, a_book, collected, one_contract, full_day, quiet_day, days_of2025, state_of, Limits, limits, renewal}
 
 -- the limits of the example book
 abbrev as_founded : List Limits
@@ -31,13 +31,13 @@ first_day = full_day (of2025 1 1) (one_contract oats dec25 6000 ∷ one_contract
 
 abbrev later_day : Day → List Call
 later_day d =
-    full_day d (sheet oats (jul25 ∷ dec25 ∷ []) (6000 ∷ 6000 ∷ []) ∷ one_contract rice nov25 3000 ∷ []) six_products
+    full_day d (files oats (jul25 ∷ dec25 ∷ []) (6000 ∷ 6000 ∷ []) ∷ one_contract rice nov25 3000 ∷ []) six_products
 
 -- the next season: a window of 45 gives new limits, one of 44 or none does not, and all are emptied
 pub forty_five_days :
     renewal a_book (first_day ++ days_of2025 later_day 30 1 2 ++ days_of2025 later_day 14 2 1) (on 2025 5 1 21)
     ≡ record {
-      answer = opened (true ∷ true ∷ true ∷ true ∷ true ∷ true ∷ false ∷ false ∷ []);
+      answer = accepted (opened (true ∷ true ∷ true ∷ true ∷ true ∷ true ∷ false ∷ false ∷ []));
       limits =
           limits 440 680
           ∷ limits 560 840
@@ -61,7 +61,7 @@ all_no = replicate 8 false
 pub next_season :
     renewal (collected 44) (quiet_day (on 2025 2 14 0)) (on 2025 5 1 21)
     ≡ record {
-      answer = opened (replicate 8 true);
+      answer = accepted (opened (replicate 8 true));
       limits =
           limits 440 680
           ∷ limits 560 840
@@ -80,14 +80,14 @@ next_season = refl
 -- a 44th and the next season: no new limits, the windows emptied
 pub forty_four :
     renewal (collected 43) (quiet_day (on 2025 2 14 0)) (on 2025 5 1 21)
-    ≡ record { answer = opened all_no; limits = as_founded; windows = replicate 8 [] }
+    ≡ record { answer = accepted (opened all_no); limits = as_founded; windows = replicate 8 [] }
 unfolding state_of
 forty_four = refl
 
 -- a season skipped: no new limits, the windows emptied
 pub skipped_season :
     renewal (collected 44) (quiet_day (on 2025 2 14 0)) (on 2025 11 3 19)
-    ≡ record { answer = opened all_no; limits = as_founded; windows = replicate 8 [] }
+    ≡ record { answer = accepted (opened all_no); limits = as_founded; windows = replicate 8 [] }
 unfolding state_of
 skipped_season = refl
 
@@ -95,7 +95,7 @@ skipped_season = refl
 pub same_season :
     renewal (collected 1) (quiet_day (on 2025 2 14 0)) (on 2025 4 30 0)
     ≡ record {
-      answer = opened all_no;
+      answer = accepted (opened all_no);
       limits = as_founded;
       windows =
           (6000 ∷ 6000 ∷ [])
@@ -115,7 +115,7 @@ same_season = refl
 pub first_opening :
     renewal (collected 45) [] (on 2025 5 1 21)
     ≡ record {
-      answer = opened all_no;
+      answer = accepted (opened all_no);
       limits = as_founded;
       windows =
           replicate 45 6000

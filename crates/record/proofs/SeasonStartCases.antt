@@ -8,8 +8,8 @@ use lib.Dec.{eqb}
 use Rattle.grain.specs.declared.check.Verdict.TheVariants.{Within, Above}
 use Rattle.record.specs.State.{Day, Record, initial, expanded, with_level, with_mark}
 use Rattle.record.specs.End.{Event, Quiet, Triggered, Held, Raised}
-use Rattle.record.specs.Record.{Call, opening, check, refused, opened, filed, checked}
-use Rattle.record.proofs.Examples.{corn, soybeans, oil, meal, chicago_wheat, kc_wheat, oats, rice, corn_group, complex, wheats, oats_group, jul25, on, collected_by, collected, one_contract, full_day, state_of, answers_after, span, Limits, limits, lead, Outcome, outcome, in_one_run}
+use Rattle.record.specs.Record.{Call, opened, filed, checked, refused, accepted}
+use Rattle.record.proofs.Examples.{corn, soybeans, oil, meal, chicago_wheat, kc_wheat, oats, rice, corn_group, complex, wheats, oats_group, jul25, on, collected_by, collected, opens, checks, one_contract, full_day, state_of, answers_after, span, Limits, limits, lead, Outcome, outcome, in_one_run}
 
 -- a day with these July 2025 settlements of Corn, Oil, Chicago Wheat and Oats; no other product moves
 abbrev four_move : Day → ℕ → ℕ → ℕ → ℕ → List Call
@@ -53,7 +53,7 @@ marked_complex = in_one_run _ _ _ _ refl
 
 -- Oil alone gets new limits, and all three come back; Soybeans and Meal keep their limits
 pub oil_alone :
-    outcome (full_for oil) complex (february ++ opening may1 ∷ [])
+    outcome (full_for oil) complex (february ++ opens may1 ∷ [])
     ≡ narrow oil (limits 400 600 ∷ limits 350 550 ∷ limits 200 300 ∷ [])
 unfolding state_of
 oil_alone = in_one_run _ _ _ _ refl
@@ -61,68 +61,68 @@ oil_alone = in_one_run _ _ _ _ refl
 -- each is checked by its own I
 pub checks_of_three :
     answers_after (full_for oil) february
-    (opening may1
-    ∷ check soybeans 0 jul25 8400
-    ∷ check soybeans 0 jul25 8402
-    ∷ check oil 0 jul25 5850
-    ∷ check oil 0 jul25 5851
-    ∷ check meal 0 jul25 4200
-    ∷ check meal 0 jul25 4201
+    (opens may1
+    ∷ checks soybeans 0 jul25 8400
+    ∷ checks soybeans 0 jul25 8402
+    ∷ checks oil 0 jul25 5850
+    ∷ checks oil 0 jul25 5851
+    ∷ checks meal 0 jul25 4200
+    ∷ checks meal 0 jul25 4201
     ∷ [])
-    ≡ opened (false ∷ false ∷ true ∷ false ∷ false ∷ false ∷ false ∷ false ∷ [])
-    ∷ checked (Within (span 7600 8400))
-    ∷ checked (Above (span 7600 8400))
-    ∷ checked (Within (span 5150 5850))
-    ∷ checked (Above (span 5150 5850))
-    ∷ checked (Within (span 3800 4200))
-    ∷ checked (Above (span 3800 4200))
+    ≡ accepted (opened (false ∷ false ∷ true ∷ false ∷ false ∷ false ∷ false ∷ false ∷ []))
+    ∷ accepted (checked (Within (span 7600 8400)))
+    ∷ accepted (checked (Above (span 7600 8400)))
+    ∷ accepted (checked (Within (span 5150 5850)))
+    ∷ accepted (checked (Above (span 5150 5850)))
+    ∷ accepted (checked (Within (span 3800 4200)))
+    ∷ accepted (checked (Above (span 3800 4200)))
     ∷ []
 unfolding state_of
 checks_of_three = refl
 
 -- ---- limits that are equal to the old are new
 pub equal_answer :
-    answers_after (full_for oats) february (opening may1 ∷ [])
-    ≡ opened (false ∷ false ∷ false ∷ false ∷ false ∷ false ∷ true ∷ false ∷ []) ∷ []
+    answers_after (full_for oats) february (opens may1 ∷ [])
+    ≡ accepted (opened (false ∷ false ∷ false ∷ false ∷ false ∷ false ∷ true ∷ false ∷ [])) ∷ []
 unfolding state_of
 equal_answer = refl
 
-pub equal_limits : outcome (full_for oats) oats_group (february ++ opening may1 ∷ []) ≡ narrow oats (limits 160 240 ∷ [])
+pub equal_limits : outcome (full_for oats) oats_group (february ++ opens may1 ∷ []) ≡ narrow oats (limits 160 240 ∷ [])
 unfolding state_of
 equal_limits = in_one_run _ _ _ _ refl
 
 -- ---- and no other group
-pub corn_reset : outcome (full_for corn) corn_group (february ++ opening may1 ∷ []) ≡ narrow corn (limits 440 680 ∷ [])
+pub corn_reset : outcome (full_for corn) corn_group (february ++ opens may1 ∷ []) ≡ narrow corn (limits 440 680 ∷ [])
 unfolding state_of
 corn_reset = in_one_run _ _ _ _ refl
 
 -- the wheats keep their level and mark over Corn's reset
 pub wheats_stay :
-    outcome (full_for corn) wheats (february ++ opening may1 ∷ []) ≡ marked chicago_wheat (limits 240 360 ∷ limits 240 360 ∷ [])
+    outcome (full_for corn) wheats (february ++ opens may1 ∷ []) ≡ marked chicago_wheat (limits 240 360 ∷ limits 240 360 ∷ [])
 unfolding state_of
 wheats_stay = in_one_run _ _ _ _ refl
 
 -- KC Wheat, which did not move, alone gets new limits, and both wheats come back
 pub kc_alone :
-    outcome (full_for kc_wheat) wheats (february ++ opening may1 ∷ []) ≡ narrow chicago_wheat (limits 240 360 ∷ limits 280 440 ∷ [])
+    outcome (full_for kc_wheat) wheats (february ++ opens may1 ∷ []) ≡ narrow chicago_wheat (limits 240 360 ∷ limits 280 440 ∷ [])
 unfolding state_of
 kc_alone = in_one_run _ _ _ _ refl
 
 -- ---- no new limits, no reset
 -- 44 settlements in the window
-pub short_window : outcome (collected 41) corn_group (february ++ opening may1 ∷ []) ≡ marked corn (limits 200 320 ∷ [])
+pub short_window : outcome (collected 41) corn_group (february ++ opens may1 ∷ []) ≡ marked corn (limits 200 320 ∷ [])
 unfolding state_of
 short_window = in_one_run _ _ _ _ refl
 
 -- 45, and a season skipped
 pub two_seasons_later :
-    outcome (collected 42) corn_group (february ++ opening (on 2025 11 3 19) ∷ []) ≡ marked corn (limits 200 320 ∷ [])
+    outcome (collected 42) corn_group (february ++ opens (on 2025 11 3 19) ∷ []) ≡ marked corn (limits 200 320 ∷ [])
 unfolding state_of
 two_seasons_later = in_one_run _ _ _ _ refl
 
 -- 45, and the same season
 pub later_in_february :
-    outcome (collected 42) corn_group (february ++ opening (on 2025 2 17 8) ∷ []) ≡ marked corn (limits 200 320 ∷ [])
+    outcome (collected 42) corn_group (february ++ opens (on 2025 2 17 8) ∷ []) ≡ marked corn (limits 200 320 ∷ [])
 unfolding state_of
 later_in_february = in_one_run _ _ _ _ refl
 
@@ -136,7 +136,7 @@ all_marked =
 
 -- 45, and the first opening
 pub first_of_all :
-    outcome all_marked corn_group (opening may1 ∷ [])
+    outcome all_marked corn_group (opens may1 ∷ [])
     ≡ record { events = []; level = expanded; mark = true; limits = limits 200 320 ∷ [] }
 unfolding state_of
 first_of_all = in_one_run _ _ _ _ refl
@@ -150,7 +150,7 @@ all_expanded =
     }
 
 pub narrow_under2014 :
-    outcome all_expanded corn_group (opening may1 ∷ [])
+    outcome all_expanded corn_group (opens may1 ∷ [])
     ≡ record { events = []; level = initial; mark = false; limits = limits 440 680 ∷ [] }
 unfolding state_of
 narrow_under2014 = in_one_run _ _ _ _ refl
@@ -158,8 +158,8 @@ narrow_under2014 = in_one_run _ _ _ _ refl
 -- ---- the dropped mark
 -- the first day of the season allows I and not E
 pub narrow_first_day :
-    answers_after (collected 42) (february ++ opening may1 ∷ []) (one_contract corn jul25 6962 ∷ one_contract corn jul25 6960 ∷ [])
-    ≡ refused 10 ∷ filed ∷ []
+    answers_after (collected 42) (february ++ opens may1 ∷ []) (one_contract corn jul25 6962 ∷ one_contract corn jul25 6960 ∷ [])
+    ≡ refused 10 ∷ accepted filed ∷ []
 unfolding state_of
 narrow_first_day = refl
 

@@ -1,4 +1,4 @@
--- An accepted call leaves a sound Record sound.
+-- An accepted change leaves a sound Record sound.
 use Prim.Native.Nat.{ℕ}
 use mathlib.Core.Path.{◌≡◌, refl, ap, ◌∙◌}
 use mathlib.Core.Bool.{Bool, true, false, not, ◌||◌}
@@ -15,8 +15,7 @@ use Rattle.record.specs.Opening.{is_true_day, opening_tests, open_product, open_
 use Rattle.record.specs.Sheet.{contracts, sheet_tests, file_product, file_group}
 use Rattle.record.specs.End.{group_event, end_product, end_group}
 use Rattle.record.specs.Sound.{is_sound_sheet, is_sound_product, is_sound_group, is_sound_date, every_product, has_no_sheet_in, has_last, has_no_last, is_sound}
-use Rattle.record.specs.Record.{Call, opening, sheet, end, check, is_outstanding, tests, next_common, next_group, next}
-use Rattle.record.proofs.Checks.{check_same}
+use Rattle.record.specs.Record.{Change, opening, sheet, end, change, is_outstanding, tests, next_common, next_group, next}
 use Rattle.record.proofs.Cleared.{Clear}
 use Rattle.record.proofs.SoundSheets.{sheet_passed}
 use Rattle.record.proofs.SoundGroups.{open_group_lem, file_group_lem, end_group_lem}
@@ -128,7 +127,7 @@ ended_sound r o n f =
     }
 
 -- each test is read by its place in the call's order
-pub accepted_sound : (r : Record) (c : Call) → Clear (tests r c) → is_sound r ≡ true → is_sound (next r c) ≡ true
+pub accepted_sound : (r : Record) (c : Change) → Clear (tests r (change c)) → is_sound r ≡ true → is_sound (next r c) ≡ true
 unfolding tests opening_tests sheet_tests
 accepted_sound r (opening d) e t = facts_sound _ (opened_sound r d (not-false _ e.1.0) (facts r t))
 accepted_sound r (sheet p ms ss) e t =
@@ -136,4 +135,3 @@ accepted_sound r (sheet p ms ss) e t =
     (filed_sound r p ms ss (not-false _ e.0)
     (sheet_passed (month_of (day_of r.common)) p ms ss e.1.1.1.0 e.1.1.1.1.0 e.1.1.1.1.1.0) (facts r t))
 accepted_sound r end e t = facts_sound _ (ended_sound r (not-false _ e.0) e.1.0 (facts r t))
-accepted_sound r (check p size month price) e t = rw (check_same r p size month price) t

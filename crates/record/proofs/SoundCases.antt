@@ -9,8 +9,8 @@ use Rattle.grain.specs.Dates.{contract_month}
 use Rattle.record.specs.State.{Day, Sheet, Level, initial, expanded, Product, Common, Record, with_opened, with_is_open}
 use Rattle.record.specs.Sheet.{contracts}
 use Rattle.record.specs.Sound.{is_sound}
-use Rattle.record.specs.Record.{opening, end, check, refused}
-use Rattle.record.proofs.Examples.{corn, jul24, aug24, sep24, june3, june4, on, a_book, unmoved, quiet_day, state_of, answers_after}
+use Rattle.record.specs.Record.{refused}
+use Rattle.record.proofs.Examples.{corn, jul24, aug24, sep24, june3, june4, on, a_book, opens, ends, checks, unmoved, quiet_day, state_of, answers_after}
 
 abbrev no_date : Common
 no_date = a_book.common
@@ -114,7 +114,7 @@ marks = refl
 
 -- no edition: every call is refused with 1
 pub no_edition :
-    answers_after (expanded_under 2015 false) [] (opening june3 ∷ unmoved corn ∷ end ∷ check corn 0 jul24 4000 ∷ [])
+    answers_after (expanded_under 2015 false) [] (opens june3 ∷ unmoved corn ∷ ends ∷ checks corn 0 jul24 4000 ∷ [])
     ≡ replicate 4 (refused 1)
 unfolding state_of
 no_edition = refl
@@ -192,7 +192,7 @@ out_of_range = refl
 -- 1 comes first: a false date, no such product, no day open
 pub unsound_first :
     answers_after (book no_date initial true (corn_with 200 320 [] None None)) []
-    (opening (on 2023 2 29 0) ∷ unmoved 8 ∷ end ∷ check 8 0 sep24 4000 ∷ opening june4 ∷ [])
+    (opens (on 2023 2 29 0) ∷ unmoved 8 ∷ ends ∷ checks 8 0 sep24 4000 ∷ opens june4 ∷ [])
     ≡ refused 1 ∷ refused 1 ∷ refused 1 ∷ refused 1 ∷ refused 1 ∷ []
 unfolding state_of
 unsound_first = refl

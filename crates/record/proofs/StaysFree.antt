@@ -16,7 +16,7 @@ use Rattle.record.specs.Founding.{Start, founding_refusal, founded}
 use Rattle.record.specs.Opening.{is_true_day, date_number, is_not_later, is_same_month, is_left_not_smaller, opening_tests}
 use Rattle.record.specs.Check.{judged}
 use Rattle.record.specs.Sound.{is_sound_date, is_sound}
-use Rattle.record.specs.Record.{Call, opening, sheet, end, check, checked, tests, refusal, next_common, next, state_by, respond, state_after}
+use Rattle.record.specs.Record.{Change, opening, sheet, end, check, Call, change, question, checked, accepted, tests, refusal, next_common, next, next_by, respond, ask, state_after}
 use Rattle.record.specs.Theorems.{after, check_after}
 use Rattle.record.proofs.TrueDays.{valid, day_small}
 use Rattle.record.proofs.Cleared.{Clear, accepted_clear}
@@ -61,23 +61,23 @@ module _ (month : ℕ) where
   opened_spot None b d s t later smaller e = let z : ◌≡◌ {A = Bool} false true = e in cc
   opened_spot (Some before) b d s t later smaller e = stays_spot before d s t later smaller month e
 
-  accepted_spot : (r : Record) (c : Call) → is_sound r ≡ true → Clear (tests r c) → spot_since r.common.opened month ≡ true
+  accepted_spot : (r : Record) (c : Change) → is_sound r ≡ true → Clear (tests r (change c)) → spot_since r.common.opened month ≡ true
       → spot_since (next r c).common.opened month ≡ true
   unfolding next next_common tests opening_tests
   accepted_spot r (opening d) s k e =
       opened_spot r.common.opened r.common.is_open d (facts r s).date (not-false _ k.1.0) k.1.1.0 k.1.1.1.0 e
   accepted_spot r (sheet p ms ss) s k e = e
   accepted_spot r end s k e = e
-  accepted_spot r (check p size m price) s k e = e
 
   respond_spot : (r : Record) (c : Call) → is_sound r ≡ true → spot_since r.common.opened month ≡ true
       → spot_since (respond r c).state.common.opened month ≡ true
   unfolding respond
-  respond_spot r c s e = go (refusal r c) refl
+  respond_spot r (change c) s e = go (refusal r (change c)) refl
     where
-      go : (o : Option ℕ) → refusal r c ≡ o → spot_since (state_by o r c).common.opened month ≡ true
+      go : (o : Option ℕ) → refusal r (change c) ≡ o → spot_since (next_by o r c).common.opened month ≡ true
       go (Some n) h = e
-      go None h = accepted_spot r c s (accepted_clear r c h).1 e
+      go None h = accepted_spot r c s (accepted_clear r (change c) h).1 e
+  respond_spot r (question q) s e = e
 
   list_spot : (r : Record) (cs : List Call) → is_sound r ≡ true → spot_since r.common.opened month ≡ true
       → spot_since (state_after r cs).common.opened month ≡ true
@@ -95,7 +95,7 @@ since_opened : (month : ℕ) (o : Option Day) → is_some o ≡ true → spot_si
 since_opened month None h = let z : ◌≡◌ {A = Bool} false true = h in cc
 since_opened month (Some d) h = refl
 
-module _ (r : Record) (p size month price : ℕ) (v : Verdict) (e : (respond r (check p size month price)).answer ≡ checked v) where
+module _ (r : Record) (p size month price : ℕ) (v : Verdict) (e : ask r (check p size month price) ≡ accepted (checked v)) where
   -- a check is answered on an open day
   since : spot_since r.common.opened month ≡ is_spot_on (day_of r.common) month
   since =
@@ -113,7 +113,7 @@ module _ (r : Record) (p size month price : ℕ) (v : Verdict) (e : (respond r (
       sym (passed r p size month price v e).is ∙ rw spot (is_free _ _ _ price)
 
 pub stays_free : (s : Start) → founding_refusal s ≡ None → (cs ds : List Call) (p q i j month x y : ℕ) (v : Verdict)
-    → check_after s cs p i month x ≡ checked Free → check_after s (cs ++ ds) q j month y ≡ checked v → v ≡ Free
+    → check_after s cs p i month x ≡ accepted (checked Free) → check_after s (cs ++ ds) q j month y ≡ accepted (checked v) → v ≡ Free
 stays_free s f cs ds p q i j month x y v e h =
     let sound = always_sound (founded s) cs (founded_sound s f) in
     let spot = list_spot month (after s cs) ds sound (found_free (after s cs) p i month x Free e refl) in

@@ -19,7 +19,7 @@ use Rattle.record.specs.Opening.{opening_tests}
 use Rattle.record.specs.Sheet.{sheet_tests}
 use Rattle.record.specs.Check.{terms_tests, order_tests}
 use Rattle.record.specs.Sound.{is_sound_group, is_sound_date, is_sound}
-use Rattle.record.specs.Record.{Call, opening, sheet, end, check, tests, refusal, answer, state_by, respond, state_after, answers}
+use Rattle.record.specs.Record.{opening, sheet, end, check, Call, change, question, tests, refusal, answer, next_by, respond, state_after, answers}
 use Rattle.record.specs.Theorems.{is_refusal}
 use Rattle.record.proofs.Cleared.{cleared, accepted_clear, not_returned}
 use Rattle.record.proofs.SoundGroups.{found_group_lem}
@@ -40,35 +40,29 @@ founded_sound s t =
 
 pub respond_sound : (r : Record) (c : Call) → is_sound r ≡ true → is_sound (respond r c).state ≡ true
 unfolding respond
-respond_sound r c t = go (refusal r c) refl
+respond_sound r (change c) t = go (refusal r (change c)) refl
   where
-    go : (o : Option ℕ) → refusal r c ≡ o → is_sound (state_by o r c) ≡ true
+    go : (o : Option ℕ) → refusal r (change c) ≡ o → is_sound (next_by o r c) ≡ true
     go (Some n) e = t
-    go None e = accepted_sound r c (accepted_clear r c e).1 t
+    go None e = accepted_sound r c (accepted_clear r (change c) e).1 t
+respond_sound r (question q) t = t
 
 pub always_sound : (r : Record) (cs : List Call) → is_sound r ≡ true → is_sound (state_after r cs) ≡ true
 unfolding state_after
 always_sound r [] t = t
 always_sound r (c ∷ cs) t = always_sound (respond r c).state cs (respond_sound r c t)
 
--- no test after the first returns 1, and no accepted call answers it
+-- no test after the first returns 1
 later_tests : (r : Record) (c : Call) → every (λ t. not (eqb t.number unsound)) (tests r c) ≡ true
 unfolding ◌and◌ every tests opening_tests sheet_tests terms_tests order_tests
-later_tests r (opening d) = refl
-later_tests r (sheet p ms ss) = refl
-later_tests r end = refl
-later_tests r (check p size month price) = refl
-
-own_answer : (r : Record) (c : Call) → not (is_refusal unsound (answer r c)) ≡ true
-unfolding answer
-own_answer r (opening d) = refl
-own_answer r (sheet p ms ss) = refl
-own_answer r end = refl
-own_answer r (check p size month price) = refl
+later_tests r (change (opening d)) = refl
+later_tests r (change (sheet p ms ss)) = refl
+later_tests r (change end) = refl
+later_tests r (question (check p size month price)) = refl
 
 respond-not-unsound : (r : Record) (c : Call) → is_sound r ≡ true → not (is_refusal unsound (respond r c).answer) ≡ true
 unfolding respond refusal
-respond-not-unsound r c t = rw t (not_returned unsound (answer r c) (own_answer r c) (tests r c) (later_tests r c))
+respond-not-unsound r c t = rw t (not_returned unsound (answer r c) (tests r c) (later_tests r c))
 
 pub never_unsound_lem : (r : Record) (cs : List Call) → is_sound r ≡ true
     → every (λ a. not (is_refusal unsound a)) (answers r cs) ≡ true

@@ -9,10 +9,10 @@ use Rattle.grain.specs.declared.check.Verdict.TheVariants.{Within, Below, Above}
 use Rattle.record.specs.State.{Day, Sheet, Level, initial, expanded, Record, group_of}
 use Rattle.record.specs.Founding.{Start, founded}
 use Rattle.record.specs.End.{Event, Quiet, Triggered, Held, Reverted, Raised}
-use Rattle.record.specs.Record.{Call, opening, end, check, refused, opened, filed, ended, checked}
+use Rattle.record.specs.Record.{Call, opened, filed, ended, checked, refused, accepted}
 use Rattle.record.specs.History.{sheets_of, products_of}
 use Rattle.record.specs.Theorems.{history_of}
-use Rattle.record.proofs.Examples.{corn, soybeans, oil, meal, chicago_wheat, kc_wheat, oats, rice, wheats, sep24, dec24, jul25, june3, june4, june5, june6, one_contract, unmoved, full_day, state_of, answers_after, span, limits, lead, Outcome, outcome, in_one_run}
+use Rattle.record.proofs.Examples.{corn, soybeans, oil, meal, chicago_wheat, kc_wheat, oats, rice, wheats, sep24, dec24, jul25, june3, june4, june5, june6, opens, ends, checks, one_contract, unmoved, full_day, state_of, answers_after, span, limits, lead, Outcome, outcome, in_one_run}
 
 -- Chicago Wheat at 240 and 360, KC Wheat at 320 and 480
 abbrev kc_at320 : Start
@@ -49,25 +49,25 @@ kc_alone = in_one_run _ _ _ _ refl
 -- both are checked by their own E, Chicago too, which did not move
 pub each_to_its_own :
     answers_after book kc_moved
-    (opening june5
-    ∷ check chicago_wheat 0 jul25 4360
-    ∷ check chicago_wheat 0 jul25 4362
-    ∷ check chicago_wheat 1 jul25 3640
-    ∷ check chicago_wheat 1 jul25 3639
-    ∷ check kc_wheat 0 jul25 4800
-    ∷ check kc_wheat 0 jul25 4802
+    (opens june5
+    ∷ checks chicago_wheat 0 jul25 4360
+    ∷ checks chicago_wheat 0 jul25 4362
+    ∷ checks chicago_wheat 1 jul25 3640
+    ∷ checks chicago_wheat 1 jul25 3639
+    ∷ checks kc_wheat 0 jul25 4800
+    ∷ checks kc_wheat 0 jul25 4802
     ∷ one_contract chicago_wheat jul25 4362
     ∷ one_contract chicago_wheat jul25 4360
     ∷ [])
-    ≡ opened (replicate 8 false)
-    ∷ checked (Within (span 3640 4360))
-    ∷ checked (Above (span 3640 4360))
-    ∷ checked (Within (span 3640 4360))
-    ∷ checked (Below (span 3640 4360))
-    ∷ checked (Within (span 3840 4800))
-    ∷ checked (Above (span 3840 4800))
+    ≡ accepted (opened (replicate 8 false))
+    ∷ accepted (checked (Within (span 3640 4360)))
+    ∷ accepted (checked (Above (span 3640 4360)))
+    ∷ accepted (checked (Within (span 3640 4360)))
+    ∷ accepted (checked (Below (span 3640 4360)))
+    ∷ accepted (checked (Within (span 3840 4800)))
+    ∷ accepted (checked (Above (span 3840 4800)))
     ∷ refused 10
-    ∷ filed
+    ∷ accepted filed
     ∷ []
 unfolding state_of
 each_to_its_own = refl
@@ -151,20 +151,20 @@ lowest_product_leads = in_one_run _ _ _ _ refl
 -- the end of a day on which KC Wheat or Oats moved by its I: an event for each of the five groups
 abbrev last_end : ℕ → ℕ → List Call
 last_end kc oat =
-    opening june4
+    opens june4
     ∷ one_contract kc_wheat jul25 kc
     ∷ one_contract oats jul25 oat
     ∷ map unmoved (corn ∷ soybeans ∷ oil ∷ meal ∷ chicago_wheat ∷ rice ∷ [])
 
 pub kc_leaves_oats :
-    answers_after book (wheat_day june3 4000 4000 ++ last_end 4320 1920) (end ∷ [])
-    ≡ ended (Quiet ∷ Quiet ∷ Triggered (lead kc_wheat jul25) ∷ Quiet ∷ Quiet ∷ []) ∷ []
+    answers_after book (wheat_day june3 4000 4000 ++ last_end 4320 1920) (ends ∷ [])
+    ≡ accepted (ended (Quiet ∷ Quiet ∷ Triggered (lead kc_wheat jul25) ∷ Quiet ∷ Quiet ∷ [])) ∷ []
 unfolding state_of
 kc_leaves_oats = refl
 
 pub oats_leave_wheats :
-    answers_after book (wheat_day june3 4000 4000 ++ last_end 4000 2080) (end ∷ [])
-    ≡ ended (Quiet ∷ Quiet ∷ Quiet ∷ Triggered (lead oats jul25) ∷ Quiet ∷ []) ∷ []
+    answers_after book (wheat_day june3 4000 4000 ++ last_end 4000 2080) (ends ∷ [])
+    ≡ accepted (ended (Quiet ∷ Quiet ∷ Quiet ∷ Triggered (lead oats jul25) ∷ Quiet ∷ [])) ∷ []
 unfolding state_of
 oats_leave_wheats = refl
 

@@ -4,8 +4,8 @@ use mathlib.Core.Path.{◌≡◌, refl}
 use mathlib.Core.List.{List, [], ◌∷◌, ◌++◌}
 use lib.ListN.{replicate, get_or}
 use Rattle.record.specs.State.{Day}
-use Rattle.record.specs.Record.{Call, sheet}
-use Rattle.record.proofs.Examples.{corn, soybeans, oil, meal, chicago_wheat, kc_wheat, oats, rice, jul25, nov25, dec25, jul26, on, a_book, a_book_with, one_contract, full_day, corn_july_day, not_corn, state_of, windows_of}
+use Rattle.record.specs.Record.{Call}
+use Rattle.record.proofs.Examples.{corn, soybeans, oil, meal, chicago_wheat, kc_wheat, oats, rice, jul25, nov25, dec25, jul26, on, a_book, a_book_with, files, one_contract, full_day, corn_july_day, not_corn, state_of, windows_of}
 
 -- a settlement of each product
 abbrev one_of_each : List (List ℕ)
@@ -31,14 +31,14 @@ middle_of_april = refl
 abbrev new_crop_day : Day → ℕ → ℕ → List Call
 new_crop_day d c s =
     full_day d
-    (sheet corn (dec25 ∷ jul26 ∷ []) (c ∷ 6100 ∷ [])
-    ∷ sheet soybeans (nov25 ∷ jul26 ∷ []) (s ∷ 8100 ∷ [])
-    ∷ sheet oil (dec25 ∷ jul26 ∷ []) (5000 ∷ 5100 ∷ [])
-    ∷ sheet meal (dec25 ∷ jul26 ∷ []) (4000 ∷ 4100 ∷ [])
-    ∷ sheet chicago_wheat (dec25 ∷ jul26 ∷ []) (4000 ∷ 4100 ∷ [])
-    ∷ sheet kc_wheat (dec25 ∷ jul26 ∷ []) (4000 ∷ 4100 ∷ [])
-    ∷ sheet oats (dec25 ∷ jul26 ∷ []) (1920 ∷ 2020 ∷ [])
-    ∷ sheet rice (nov25 ∷ jul26 ∷ []) (3000 ∷ 3100 ∷ [])
+    (files corn (dec25 ∷ jul26 ∷ []) (c ∷ 6100 ∷ [])
+    ∷ files soybeans (nov25 ∷ jul26 ∷ []) (s ∷ 8100 ∷ [])
+    ∷ files oil (dec25 ∷ jul26 ∷ []) (5000 ∷ 5100 ∷ [])
+    ∷ files meal (dec25 ∷ jul26 ∷ []) (4000 ∷ 4100 ∷ [])
+    ∷ files chicago_wheat (dec25 ∷ jul26 ∷ []) (4000 ∷ 4100 ∷ [])
+    ∷ files kc_wheat (dec25 ∷ jul26 ∷ []) (4000 ∷ 4100 ∷ [])
+    ∷ files oats (dec25 ∷ jul26 ∷ []) (1920 ∷ 2020 ∷ [])
+    ∷ files rice (nov25 ∷ jul26 ∷ []) (3000 ∷ 3100 ∷ [])
     ∷ [])
     []
 
@@ -60,7 +60,7 @@ abbrev corn_window : List Call → List ℕ
 corn_window cs = get_or (windows_of (state_of a_book cs)) corn []
 
 abbrev two_julys : Day → ℕ → List Call
-two_julys d settlement = full_day d (sheet corn (jul25 ∷ jul26 ∷ []) (settlement ∷ 7000 ∷ []) ∷ []) not_corn
+two_julys d settlement = full_day d (files corn (jul25 ∷ jul26 ∷ []) (settlement ∷ 7000 ∷ []) ∷ []) not_corn
 
 -- the next July: next year's in November and December, this year's from January on
 pub next_july :

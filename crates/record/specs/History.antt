@@ -2,7 +2,7 @@
 use Rattle.std.specs.Prelude.{ℕ, Bool, true, false, cond, List, [], ◌∷◌, map, ◌≡◌, eqb, get_or, Option, Some, None}
 use Rattle.record.specs.State.{Day, Sheet, group_table}
 use Rattle.record.specs.Sheet.{contracts}
-use Rattle.record.specs.Record.{Call, opening, sheet, end, check, Answer, refused, opened, filed, ended, checked}
+use Rattle.record.specs.Record.{Change, opening, sheet, end, Call, change, question, Answer, refused, accepted}
 
 pub record ProductSheet : Type 0 where
   pub product : ℕ
@@ -18,7 +18,7 @@ pub record KeptDay : Type 0 where
 pub data Entry : Type 0 where
   a_day : KeptDay → Entry
 
--- what an accepted call adds
+-- what an accepted change adds
 abbrev pub with_sheet : ProductSheet → List Entry → List Entry
 with_sheet f [] = []
 with_sheet f (a_day k ∷ es) = a_day (record { day = k.day; sheets = f ∷ k.sheets; is_ended = k.is_ended }) ∷ es
@@ -27,19 +27,16 @@ abbrev pub with_end : List Entry → List Entry
 with_end [] = []
 with_end (a_day k ∷ es) = a_day (record { day = k.day; sheets = k.sheets; is_ended = true }) ∷ es
 
-abbrev pub add : Call → List Entry → List Entry
+abbrev pub add : Change → List Entry → List Entry
 add (opening d) es = a_day (record { day = d; sheets = []; is_ended = false }) ∷ es
 add (sheet p ms ss) es = with_sheet (record { product = p; sheet = contracts ms ss }) es
 add end es = with_end es
-add (check p size month price) es = es
 
--- a refused call adds nothing
+-- a refused call adds nothing, and a question neither
 abbrev pub add_by : Answer → Call → List Entry → List Entry
 add_by (refused n) c es = es
-add_by (opened l) c es = add c es
-add_by filed c es = add c es
-add_by (ended l) c es = add c es
-add_by (checked v) c es = add c es
+add_by (accepted a) (change c) es = add c es
+add_by (accepted a) (question q) es = es
 
 unfoldable pub kept_from : List Entry → List Call → List Answer → List Entry
 kept_from es [] as' = es

@@ -12,7 +12,7 @@ use Rattle.record.specs.Founding.{Start, founding_refusal, founded}
 use Rattle.record.specs.End.{is_raised}
 use Rattle.record.specs.Check.{listed}
 use Rattle.record.specs.Sound.{is_sound}
-use Rattle.record.specs.Record.{Call, check, Answer, refused, opened, filed, ended, checked, respond, state_after, answers}
+use Rattle.record.specs.Record.{check, Call, opened, filed, ended, checked, Answer, refused, accepted, ask, state_after, answers}
 use Rattle.record.specs.History.{Entry, kept, products_of, SameFor}
 use Rattle.record.specs.Replay.{replay}
 
@@ -25,22 +25,19 @@ history_of s cs = kept cs (answers (founded s) cs)
 
 -- the answer that a further price check gets
 abbrev pub check_after : Start → List Call → ℕ → ℕ → ℕ → ℕ → Answer
-check_after s cs p size month price = (respond (after s cs) (check p size month price)).answer
+check_after s cs p size month price = ask (after s cs) (check p size month price)
 
 abbrev pub is_refusal : ℕ → Answer → Bool
 is_refusal n (refused m) = eqb m n
-is_refusal n (opened l) = false
-is_refusal n filed = false
-is_refusal n (ended l) = false
-is_refusal n (checked v) = false
+is_refusal n (accepted a) = false
 
 -- an end raised a group
 abbrev pub has_raised : Answer → Bool
 has_raised (refused n) = false
-has_raised (opened l) = false
-has_raised filed = false
-has_raised (ended events) = list_any is_raised events
-has_raised (checked v) = false
+has_raised (accepted (opened l)) = false
+has_raised (accepted filed) = false
+has_raised (accepted (ended events)) = list_any is_raised events
+has_raised (accepted (checked v)) = false
 
 -- ---- one level for a group
 
@@ -79,10 +76,10 @@ pub record BetweenLimits (r : Record) (p month price : ℕ) : Type 0 where
 
 -- the prices that a check of the contract finds within are those from the lowest to the highest of the span, of the prices that pass 8
 pub record Resent (r : Record) (p size month : ℕ) (s : Span) : Type 0 where
-  pub at_lowest : (respond r (check p size month s.lowest)).answer ≡ checked (Within s)
-  pub at_highest : (respond r (check p size month s.highest)).answer ≡ checked (Within s)
+  pub at_lowest : ask r (check p size month s.lowest) ≡ accepted (checked (Within s))
+  pub at_highest : ask r (check p size month s.highest) ≡ accepted (checked (Within s))
   pub elsewhere :
-      (price : ℕ) (v : Verdict) → (respond r (check p size month price)).answer ≡ checked v
+      (price : ℕ) (v : Verdict) → ask r (check p size month price) ≡ accepted (checked v)
       → is_within v ≡ (leb s.lowest price && leb price s.highest)
 
 -- ---- the theorems
@@ -105,16 +102,16 @@ pub record Theorems : Type 0 where
   pub coupled :
       (s : Start) (cs : List Call) (p q i j m n x y : ℕ) (v w : Verdict) → group_of p ≡ group_of q
       → BetweenLimits (after s cs) p m x → BetweenLimits (after s cs) q n y
-      → check_after s cs p i m x ≡ checked v → check_after s cs q j n y ≡ checked w → is_within v ≡ is_within w
+      → check_after s cs p i m x ≡ accepted (checked v) → check_after s cs q j n y ≡ accepted (checked w) → is_within v ≡ is_within w
   -- an order that is sent again at an end of the span that its check showed is within, and so are those between, and no others
   pub resent :
       (s : Start) (cs : List Call) (p size month price : ℕ) (v : Verdict) (allowed : Span)
-      → check_after s cs p size month price ≡ checked v → span_in v ≡ Some allowed → Resent (after s cs) p size month allowed
+      → check_after s cs p size month price ≡ accepted (checked v) → span_in v ≡ Some allowed → Resent (after s cs) p size month allowed
   -- a contract month that a check found free is free in every later check that is answered, of any product and price: the left falls
   -- within a month, so that a month once spot stays so
   pub stays_free :
       (s : Start) → founding_refusal s ≡ None → (cs ds : List Call) (p q i j month x y : ℕ) (v : Verdict)
-      → check_after s cs p i month x ≡ checked Free → check_after s (cs ++ ds) q j month y ≡ checked v → v ≡ Free
+      → check_after s cs p i month x ≡ accepted (checked Free) → check_after s (cs ++ ds) q j month y ≡ accepted (checked v) → v ≡ Free
   -- two lists with the same openings and ends accepted and the same sheets of one group on each day: the same day is open after both, or none
   pub same_day :
       (s : Start) (g : ℕ) (cs ds : List Call) → SameFor g (history_of s cs) (history_of s ds)

@@ -8,7 +8,7 @@ use Rattle.grain.specs.Lists.{◌and◌, every}
 use Rattle.record.specs.Refusals.{when, unsound}
 use Rattle.record.specs.Check.{terms_tests, order_tests}
 use Rattle.record.specs.Sound.{is_sound}
-use Rattle.record.specs.Record.{check, tests, refusal, answer, respond}
+use Rattle.record.specs.Record.{check, question, tests, refusal, answer, respond}
 use Rattle.record.specs.Theorems.{is_refusal}
 use Rattle.record.proofs.Cleared.{not_returned}
 use Rattle.book.specs.declared.Book.{Book}
@@ -20,5 +20,5 @@ pub book-counted : (b : Book) (p size month price : ℕ) → is_refusal tally_fu
 unfolding respond refusal tests terms_tests order_tests answer every ◌and◌
 book-counted b p size month price =
     not-true _
-    (not_returned tally_full (answer (view b) (check p size month price)) refl
-    (when (not (is_sound (view b))) unsound ∷ tests (view b) (check p size month price)) refl)
+    (not_returned tally_full (answer (view b) (question (check p size month price)))
+    (when (not (is_sound (view b))) unsound ∷ tests (view b) (question (check p size month price))) refl)

@@ -1,6 +1,6 @@
 -- What a check on a book through a tally promises, whatever the book, the tally, product, size, month and price.
 use Rattle.std.specs.Prelude.{ℕ, ◌≡◌, cond}
-use Rattle.record.specs.Record.{check, Answer, refused, opened, filed, ended, checked, respond}
+use Rattle.record.specs.Record.{check, opened, filed, ended, checked, Answer, refused, accepted, ask}
 use Rattle.book.specs.declared.Book.{Book}
 use Rattle.book.specs.Book.{view}
 use Rattle.tally.specs.declared.Tally.{Tally}
@@ -10,15 +10,15 @@ use Rattle.tally.specs.Tally.{tally_refusal, takes, kind_of_verdict, counted}
 
 -- what an answer is counted as: a check is answered by a verdict or a refusal
 abbrev pub kind_of : Answer → Kind
-kind_of (checked v) = kind_of_verdict v
+kind_of (accepted (checked v)) = kind_of_verdict v
 kind_of (refused n) = Refused
-kind_of (opened l) = Refused
-kind_of filed = Refused
-kind_of (ended l) = Refused
+kind_of (accepted (opened l)) = Refused
+kind_of (accepted filed) = Refused
+kind_of (accepted (ended l)) = Refused
 
 -- what the Record of the book answers
 abbrev pub book_answer : Book → ℕ → ℕ → ℕ → ℕ → Answer
-book_answer b p size month price = (respond (view b) (check p size month price)).answer
+book_answer b p size month price = ask (view b) (check p size month price)
 
 -- 15 and a tally's 1 are the tally's own; every other answer is the book's, and is counted, the book's own 1 too.
 -- The book is lent to read only, and stays as it is.

@@ -1,22 +1,20 @@
-use Rattle.std.proofs.Common.{rules, refl, sym, ap, ◌∙◌}
+use Rattle.std.proofs.Common.{rules, ◌≡◌, refl, sym, ap, ◌∙◌, Err}
 use Rattle.record.specs.Check.{Terms}
-use Rattle.record.specs.Record.{check, checked, order_answer}
+use Rattle.record.specs.Record.{order_answer}
 use Rattle.record.proofs.CheckTerms.{refused_terms, on_terms}
 use Rattle.book.specs.Book.{view}
-use Rattle.book.proofs.Responses.{refused_call, check_responds}
 use Rattle.checking.proofs.check.Goals as goal
 
 pub returns-in_err-terms : goal.returns-in_err-terms
 returns-in_err-terms c =
     let a = c.args in
-    refused_call checked a.b.now (check a.product a.size a.month a.price) c.from_residual.result c.in_err-terms.field-0.0 (search rules)
-    (sym (refused_terms (view a.b.now) a.product a.size a.month a.price _ (sym c.in_err-terms.ensures.refusal)))
+    let is : c.from_residual.result ≡ Err c.in_err-terms.field-0.0 = search rules in
+    rw is (sym (refused_terms (view a.b.now) a.product a.size a.month a.price _ (sym c.in_err-terms.ensures.refusal)))
 
 pub returns : goal.returns
 returns c =
     let a = c.args in
     let o = c.in_ok-terms.ensures in
-    check_responds a.b.now a.product a.size a.month a.price _
-    (c.judged.ensures
+    c.judged.ensures
     ∙ ap (λ (t : Terms). order_answer t a.month a.price) (o.terms _ refl)
-    ∙ sym (on_terms (view a.b.now) a.product a.size a.month a.price (sym o.refusal)))
+    ∙ sym (on_terms (view a.b.now) a.product a.size a.month a.price (sym o.refusal))

@@ -21,8 +21,8 @@ tallies : (b : Book) (t u : Tally) (p size month price : ℕ) (r : Result Verdic
     → (takes t ≡ false → IsRefusedWith (tally_refusal t) r × (u ≡ t)) → Tallies b t p size month price (checked_as r) u
 tallies b t u p size month price r taken turned =
     let is = book_answer b p size month price in record {
-      answer = answered checked_as refused (λ x. refl) kind_of same_kind t u r is (λ e. ((taken e).0.answer, (taken e).1)) turned;
-      tally = tallied checked_as refused (λ x. refl) kind_of same_kind t u r is (λ e. ((taken e).0.answer, (taken e).1)) turned;
+      answer = answered checked_as refused (λ x. refl) kind_of same_kind t u r is (taken) turned;
+      tally = tallied checked_as refused (λ x. refl) kind_of same_kind t u r is (taken) turned;
     }
 
 pub returns : goal.returns

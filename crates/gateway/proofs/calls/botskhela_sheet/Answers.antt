@@ -5,4 +5,4 @@ use Rattle.gateway.proofs.calls.botskhela_sheet.Goals as goal
 
 pub returns : goal.returns
 returns c =
-    written_image (λ a. filed) c.args.words.now _ _ _ (λ a. refl) (λ a. refl) (λ lent a left p. search rules) _ _ _ (rw c.book_in-b.ensures at c.sheet-filed.ensures) c.write.ensures
+    written_image (λ a. filed) c.args.words.now _ _ _ (λ a. refl) (λ lent a left p. search rules) _ _ _ (rw c.book_in-b.ensures at c.sheet-filed.ensures) c.write.ensures

@@ -8,4 +8,4 @@ pub returns : goal.returns
 returns c =
     let a = c.args in
     let checks = subst (λ (b : Book). Checks b a.product a.size a.month a.price c.check.result) c.book_in.ensures c.check.ensures in
-    c.into.ensures ∙ ap with_span checks.answer
+    c.into.ensures ∙ ap with_span checks
