@@ -22,12 +22,13 @@ use Rattle.record.proofs.Proved.{theorems}
 use Rattle.book.specs.Book.{view}
 use Rattle.book.proofs.SoundnessFirst.{unsound-refusal}
 use Rattle.book.proofs.Unfounded.{no_book-unsound}
+use Rattle.history.specs.Trace.{Trace, done, more}
 use Rattle.history.proofs.Agrees as agrees
 use Rattle.image.specs.Image.{is_image, book_in}
 use Rattle.image.specs.Answers.{renewed_in, events_in}
 use Rattle.gateway.specs.Calls.{answer_number, renewed_after, events_after, answer_to, RespondsImage, answer_span, with_span, image_check, no_renewed, no_events}
 use Rattle.gateway.specs.declared.spans.Spanned.{Spanned}
-use Rattle.gateway.specs.Images.{Seen, sees, seen_of, ImageTrace, done, changes, checks, spans, ImageRun, ResentImage, WholeImages, NoImage}
+use Rattle.gateway.specs.Images.{Seen, sees, seen_of, ImageStep, changes, checks, spans, ImageRun, ResentImage, WholeImages, NoImage}
 use Rattle.gateway.proofs.Numbers.{number_of, accepted_by}
 
 -- ---- one call
@@ -71,12 +72,12 @@ one_more {ws} {now} {z} {c} {n} {cs} {vs} r f =
       contents = rw (← r.state) f.contents;
     }
 
-follows : {ws z : List ℕ} {cs : List Call} {vs : List Seen} → ImageTrace ws cs vs z → Follows ws cs vs z
+follows : {ws z : List ℕ} {cs : List Call} {vs : List Seen} → Trace ImageStep ws cs vs z → Follows ws cs vs z
 unfolding answers state_after seen_of
 follows done = record { seen = refl; contents = refl }
-follows (changes n r t) = one_more (changed r) (follows t)
-follows (checks n e t) = one_more (asked _ _ _ _ _ n e) (follows t)
-follows (spans r e t) = one_more (asked _ _ _ _ _ r.answer (ap (λ (r : Spanned). r.answer) e)) (follows t)
+follows (more (changes n r) t) = one_more (changed r) (follows t)
+follows (more (checks n e) t) = one_more (asked _ _ _ _ _ n e) (follows t)
+follows (more (spans r e) t) = one_more (asked _ _ _ _ _ r.answer (ap (λ (r : Spanned). r.answer) e)) (follows t)
 
 module _ (s : Start) (cs : List Call) (vs : List Seen) (z : List ℕ) (run : ImageRun s cs vs z) where
   is_founded : founding_refusal s ≡ None

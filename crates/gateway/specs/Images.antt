@@ -13,6 +13,7 @@ use Rattle.record.specs.Record.{Change, check, Call, change, question, checked, 
 use Rattle.record.specs.History.{SameFor}
 use Rattle.record.specs.Theorems.{after, history_of, check_after, Together, BetweenLimits}
 use Rattle.book.specs.Book.{view}
+use Rattle.history.specs.Trace.{Trace}
 use Rattle.history.specs.Whole.{SameContents}
 use Rattle.image.specs.Image.{is_image, book_in}
 use Rattle.image.specs.Answers.{renewed_in, events_in}
@@ -35,24 +36,20 @@ seen_of rs es (a ∷ l) =
     record { number = answer_number a; renewed = renewed_after a rs; events = events_after a es }
     ∷ seen_of (renewed_after a rs) (events_after a es) l
 
--- A list of calls on an image, each on the words that the one before left. Of each call it holds what its contract says, and no more.
-pub data ImageTrace : List ℕ → List Call → List Seen → List ℕ → Type 0 where
-  done : {ws : List ℕ} → ImageTrace ws [] [] ws
-  changes : {ws now z : List ℕ} {c : Change} {cs : List Call} {vs : List Seen} (n : ℕ)
-      → RespondsImage ws c n now → ImageTrace now cs vs z → ImageTrace ws (change c ∷ cs) (sees n now ∷ vs) z
-  checks : {ws z : List ℕ} {p size month price : ℕ} {cs : List Call} {vs : List Seen} (n : ℕ)
-      → n ≡ image_check ws p size month price → ImageTrace ws cs vs z
-      → ImageTrace ws (question (check p size month price) ∷ cs) (sees n ws ∷ vs) z
-  spans : {ws z : List ℕ} {p size month price : ℕ} {cs : List Call} {vs : List Seen} (r : Spanned)
-      → r ≡ image_span ws p size month price → ImageTrace ws cs vs z
-      → ImageTrace ws (question (check p size month price) ∷ cs) (sees r.answer ws ∷ vs) z
+-- One call on an image: what its contract says, and no more.
+pub data ImageStep : List ℕ → Call → Seen → List ℕ → Type 0 where
+  changes : {ws now : List ℕ} {c : Change} (n : ℕ) → RespondsImage ws c n now → ImageStep ws (change c) (sees n now) now
+  checks : {ws : List ℕ} {p size month price : ℕ} (n : ℕ)
+      → n ≡ image_check ws p size month price → ImageStep ws (question (check p size month price)) (sees n ws) ws
+  spans : {ws : List ℕ} {p size month price : ℕ} (r : Spanned)
+      → r ≡ image_span ws p size month price → ImageStep ws (question (check p size month price)) (sees r.answer ws) ws
 
 -- from an accepted founding on any words
 pub record ImageRun (s : Start) (cs : List Call) (vs : List Seen) (z : List ℕ) : Type 0 where
   pub lent : List ℕ
   pub fresh : List ℕ
   pub founds : FoundsImage lent s 0 fresh
-  pub trace : ImageTrace fresh cs vs z
+  pub trace : Trace ImageStep fresh cs vs z
 
 -- an order that is sent again at an end of its span is within, with the same span
 pub record ResentImage (ws : List ℕ) (p size month : ℕ) (r : Spanned) : Type 0 where

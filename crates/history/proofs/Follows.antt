@@ -1,10 +1,11 @@
 -- A list of calls follows the Record: its answers and the book that it leaves are the Record's.
 use Rattle.std.proofs.Common.{◌≡◌, refl, List, ◌∷◌}
-use Rattle.record.specs.Record.{Change, Question, Call, change, question, Answer, respond, ask, state_after, answers}
+use Rattle.record.specs.Record.{Change, Call, change, Answer, respond, state_after, answers}
 use Rattle.book.specs.declared.Book.{Book}
 use Rattle.book.specs.Book.{view}
 use Rattle.book.specs.Calls.{Responds}
-use Rattle.history.specs.Trace.{Trace, done, opens, files, ends, checks}
+use Rattle.history.specs.Step.{Step, opens, files, ends, checks}
+use Rattle.history.specs.Trace.{Trace, done, more}
 
 -- one call
 record Stepped (b : Book) (c : Call) (a : Answer) (y : Book) : Type 0 where
@@ -14,9 +15,12 @@ record Stepped (b : Book) (c : Call) (a : Answer) (y : Book) : Type 0 where
 changed : {b y : Book} {c : Change} {a : Answer} → Responds b c a y → Stepped b (change c) a y
 changed r = record { answer = r.answer; state = r.state }
 
-asked : {b : Book} {q : Question} {a : Answer} → a ≡ ask (view b) q → Stepped b (question q) a b
+stepped : {b y : Book} {c : Call} {a : Answer} → Step b c a y → Stepped b c a y
 unfolding respond
-asked e = record { answer = e; state = refl }
+stepped (opens r s) = changed s
+stepped (files r s) = changed s
+stepped (ends r s) = changed s
+stepped (checks r s) = record { answer = s; state = refl }
 
 -- a list
 pub record Follows (b : Book) (cs : List Call) (rs : List Answer) (z : Book) : Type 0 where
@@ -28,10 +32,7 @@ one_more : {b y z : Book} {c : Call} {a : Answer} {cs : List Call} {rs : List An
 unfolding answers state_after
 one_more s f = record { answered = rw (← s.state) (cc (s.answer, f.answered)); contents = rw (← s.state) f.contents }
 
-pub follows : {b z : Book} {cs : List Call} {rs : List Answer} → Trace b cs rs z → Follows b cs rs z
+pub follows : {b z : Book} {cs : List Call} {rs : List Answer} → Trace Step b cs rs z → Follows b cs rs z
 unfolding answers state_after
 follows done = record { answered = refl; contents = refl }
-follows (opens r s t) = one_more (changed s) (follows t)
-follows (files r s t) = one_more (changed s) (follows t)
-follows (ends r s t) = one_more (changed s) (follows t)
-follows (checks r s t) = one_more (asked s) (follows t)
+follows (more s t) = one_more (stepped s) (follows t)

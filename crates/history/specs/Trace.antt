@@ -1,23 +1,8 @@
--- A list of calls on a book, each on the book that the one before left. It holds what the calls' contracts say, and nothing else.
-use Rattle.std.specs.Prelude.{ℕ, Bool, List, [], ◌∷◌, Result}
-use Rattle.grain.specs.declared.check.Verdict.{Verdict}
-use Rattle.grain.specs.declared.refusals.Refusal.{Refusal}
-use Rattle.record.specs.declared.Day.{Day}
-use Rattle.record.specs.declared.Event.{Event}
-use Rattle.record.specs.Record.{opening, sheet, end, check, Call, change, question, Answer}
-use Rattle.book.specs.declared.Book.{Book}
-use Rattle.opening.specs.Opens.{opened_as, Opens}
-use Rattle.filing.specs.Files.{filed_as, Files}
-use Rattle.ending.specs.Ends.{ended_as, Ends}
-use Rattle.checking.specs.Checks.{checked_as, Checks}
+-- A list of calls, each on the state that the one before left: of books, of images, and of whatever else has a relation for one call.
+use Rattle.std.specs.Prelude.{List, [], ◌∷◌}
+use Rattle.record.specs.Record.{Call}
 
-pub data Trace : Book → List Call → List Answer → Book → Type 0 where
-  done : {b : Book} → Trace b [] [] b
-  opens : {b y z : Book} {d : Day} {cs : List Call} {rs : List Answer} (r : Result (List Bool) Refusal)
-      → Opens b d r y → Trace y cs rs z → Trace b (change (opening d) ∷ cs) (opened_as r ∷ rs) z
-  files : {b y z : Book} {p : ℕ} {ms ss : List ℕ} {cs : List Call} {rs : List Answer} (r : Result (Unit {0}) Refusal)
-      → Files b p ms ss r y → Trace y cs rs z → Trace b (change (sheet p ms ss) ∷ cs) (filed_as r ∷ rs) z
-  ends : {b y z : Book} {cs : List Call} {rs : List Answer} (r : Result (List Event) Refusal)
-      → Ends b r y → Trace y cs rs z → Trace b (change end ∷ cs) (ended_as r ∷ rs) z
-  checks : {b z : Book} {p size month price : ℕ} {cs : List Call} {rs : List Answer} (r : Result Verdict Refusal)
-      → Checks b p size month price r → Trace b cs rs z → Trace b (question (check p size month price) ∷ cs) (checked_as r ∷ rs) z
+pub data Trace {S A : Type 0} (Step : S → Call → A → S → Type 0) : S → List Call → List A → S → Type 0 where
+  done : {s : S} → Trace Step s [] [] s
+  more : {s t z : S} {c : Call} {a : A} {cs : List Call} {l : List A}
+      → Step s c a t → Trace Step t cs l z → Trace Step s (c ∷ cs) (a ∷ l) z

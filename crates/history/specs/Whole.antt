@@ -18,13 +18,14 @@ use Rattle.book.specs.declared.Book.{Book}
 use Rattle.book.specs.Book.{limit_in, window_of, standing_in, today_in, last_in, level_of, view}
 use Rattle.book.specs.Founding.{Founds}
 use Rattle.checking.specs.Checks.{Checks}
+use Rattle.history.specs.Step.{Step}
 use Rattle.history.specs.Trace.{Trace}
 
 -- A list of calls on a fresh book, which is what an accepted founding returns; their answers, and the book that they leave.
 pub record Run (s : Start) (cs : List Call) (rs : List Answer) (z : Book) : Type 0 where
   pub fresh : Book
   pub founds : Founds s (Ok fresh)
-  pub trace : Trace fresh cs rs z
+  pub trace : Trace Step fresh cs rs z
 
 -- what a book holds of a product is what a Record holds of it
 pub record SameProduct (z : Book) (r : Record) (p : ℕ) : Type 0 where
