@@ -47,7 +47,7 @@
 
 /* Refusals. Where several apply, each call says which comes first. */
 #define BOTSKHELA_UNSOUND           1u  /* the book, or the tally, is none or damaged               */
-#define BOTSKHELA_WRONG_PHASE       2u  /* opening with a day open; sheet, end or check with none   */
+#define BOTSKHELA_WRONG_PHASE       2u  /* a day is open; for a sheet, an end or a check none is    */
 #define BOTSKHELA_NO_SUCH_DATE      3u  /* no date from 2000 to 2098, or left beyond its month      */
 #define BOTSKHELA_NOT_LATER         4u  /* the date is not later than the last opened one           */
 #define BOTSKHELA_NO_SUCH_PRODUCT   5u  /* no such product, or no such size of it                   */
@@ -63,6 +63,7 @@
 #define BOTSKHELA_TALLY_FULL        15u /* the tally has counted 4,294,967,295 checks               */
 #define BOTSKHELA_LEFT_NOT_SMALLER  16u /* left not smaller than at the last opening of that month  */
 #define BOTSKHELA_UNKNOWN_EDITION   17u /* a founding under neither edition                         */
+#define BOTSKHELA_GROUP_EXPANDED    18u /* a conversion of a 2014 book with an expanded group       */
 
 /* What an ended day did to a group. */
 #define BOTSKHELA_QUIET     0u /* the initial level stays                                          */
@@ -149,7 +150,7 @@ typedef struct botskhela_event {
 typedef struct botskhela_book {
     uint32_t format; /* BOTSKHELA_FORMAT */
 
-    uint32_t edition; /* BOTSKHELA_EDITION_2014 or _2023, from the founding on */
+    uint32_t edition; /* BOTSKHELA_EDITION_2014 or _2023: the founding's, and _2023 after a conversion */
 
     uint32_t is_open; /* 1 while a day is open, else 0 */
     uint32_t year;    /* of the last opened day, with its left; four zeros before the first */
@@ -317,6 +318,14 @@ uint32_t botskhela_sheet(botskhela_book *book, uint32_t product, const uint32_t 
  * Refusals: BOTSKHELA_UNSOUND, BOTSKHELA_WRONG_PHASE, BOTSKHELA_SHEET_OUTSTANDING.
  */
 uint32_t botskhela_end(botskhela_book *book);
+
+/*
+ * Carries a book from the edition of 2014 to that of 2023, with no day open and every group at its initial level: the edition
+ * changes, and nothing else. A sound book under 2023 with no day open is accepted too, and no byte of it changes.
+ *
+ * Refusals: BOTSKHELA_UNSOUND, BOTSKHELA_WRONG_PHASE, BOTSKHELA_GROUP_EXPANDED.
+ */
+uint32_t botskhela_convert(botskhela_book *book);
 
 /*
  * Judges an order by the book: size as above, month the contract's, price on the tick of the product and size.

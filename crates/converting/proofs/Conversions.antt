@@ -3,19 +3,19 @@ use Rattle.std.proofs.Common.{ℕ, ◌≡◌, refl, sym, ◌∙◌, ap, Bool, tr
 use Rattle.std.specs.Prelude.{◌&&◌, Some, None}
 use Rattle.std.specs.List.{list_any}
 use Rattle.grain.proofs.Every.{any_mapped}
-use Rattle.record.specs.Refusals.{Test, when}
+use Rattle.record.specs.Refusals.{Test, when, group_expanded}
 use Rattle.record.specs.State.{Group, group_count}
 use Rattle.record.specs.Sound.{is_expanded}
+use Rattle.record.specs.Conversion.{has_expanded, conversion_tests}
+use Rattle.record.specs.Record.{convert, change, tests, refusal, next, next_common, next_group}
 use Rattle.book.specs.declared.Book.{Book}
-use Rattle.book.specs.Book.{no_standing, level_of, standing_in, view_group, view_common, view, view_held}
+use Rattle.book.specs.Book.{no_standing, level_of, standing_in, view_group, view_common, view}
 use Rattle.book.specs.Numbers.{all_groups}
 use Rattle.book.specs.declared.Standing.{Standing}
 use Rattle.book.specs.Phase.{phase_refusal}
 use Rattle.book.proofs.Numbers.{values_are}
 use Rattle.book.proofs.Phases.{refused_early, decided_late}
-use Rattle.book.proofs.Views.{shown_group, groups_are}
-use Rattle.converting.specs.Conversion.{group_expanded, has_expanded, conversion_tests, conversion_refusal, converted}
-use Rattle.converting.specs.Converts.{with_2023}
+use Rattle.book.proofs.Views.{shown_group, groups_are, next-view}
 
 level_is : (e : Bool) → is_expanded (level_of e) ≡ e
 level_is true = refl
@@ -39,24 +39,28 @@ abbrev edition_tests : Book → List Test
 edition_tests b = when (eqb (view b).common.edition 2014 && has_expanded (view b).groups) group_expanded ∷ []
 
 -- refused by the first two
-pub phase_refuses : (b : Book) (n : ℕ) → Some n ≡ phase_refusal false (view b) → Some n ≡ conversion_refusal (view b)
-unfolding conversion_tests
+pub phase_refuses : (b : Book) (n : ℕ) → Some n ≡ phase_refusal false (view b) → Some n ≡ refusal (view b) (change convert)
+unfolding refusal tests conversion_tests
 phase_refuses b n e = sym (refused_early (view b) _ n (edition_tests b) (sym e))
 
 -- past them, the test of the edition decides
 pub edition_decides : (b : Book) → None ≡ phase_refusal false (view b)
-    → conversion_refusal (view b) ≡ cond (eqb b.edition 2014 && has_expanded (view b).groups) (Some group_expanded) None
-unfolding conversion_tests view view_common
+    → refusal (view b) (change convert) ≡ cond (eqb b.edition 2014 && has_expanded (view b).groups) (Some group_expanded) None
+unfolding refusal tests conversion_tests view view_common
 edition_decides b e = decided_late (view b) _ (edition_tests b) (sym e)
 
 pub levels_decide : (b : Book) → length b.standings ≡ group_count → None ≡ phase_refusal false (view b)
-    → conversion_refusal (view b) ≡ cond (eqb b.edition 2014 && list_any (λ (s : Standing). s.expanded) b.standings) (Some group_expanded) None
+    → refusal (view b) (change convert) ≡ cond (eqb b.edition 2014 && list_any (λ (s : Standing). s.expanded) b.standings) (Some group_expanded) None
 levels_decide b long e = edition_decides b e ∙ ap (λ x. cond (eqb b.edition 2014 && x) (Some group_expanded) None) (expanded_is b long)
 
 -- ---- the book after it
-pub converted_view : (b : Book) → view (with_2023 b) ≡ converted (view b)
-unfolding view view_common view_group view_held
-converted_view b = refl
+-- a book with its edition changed
+abbrev pub with_2023 : Book → Book
+with_2023 b = record { edition = 2023; standings = b.standings; products = b.products; opened = b.opened; is_open = b.is_open }
+
+pub converted_view : (b : Book) → view (with_2023 b) ≡ next (view b) convert
+unfolding next_common next_group view_common view_group
+converted_view b = next-view b (with_2023 b) convert refl (λ g l. refl)
 
 pub stays : (b : Book) → b.edition ≡ 2023 → with_2023 b ≡ b
 stays b e = rw (← e)

@@ -1,2 +1,1 @@
-pub mod Conversion
 pub mod Converts

@@ -15,7 +15,7 @@ use Rattle.record.specs.Refusals.{unsound}
 use Rattle.record.specs.State.{Record, group_of, group_at}
 use Rattle.record.specs.Founding.{Start, founding_refusal, founded}
 use Rattle.record.specs.Sound.{is_sound}
-use Rattle.record.specs.Record.{Change, check, Call, change, question, opened, filed, ended, checked, Answer, refused, accepted, refusal, answer, answer_by, respond, ask, state_after, answers}
+use Rattle.record.specs.Record.{Change, check, Call, change, question, opened, filed, ended, converted, checked, Answer, refused, accepted, refusal, answer, answer_by, respond, ask, state_after, answers}
 use Rattle.record.specs.History.{SameFor}
 use Rattle.record.specs.Theorems.{after, history_of, is_refusal}
 use Rattle.record.proofs.Proved.{theorems}
@@ -108,6 +108,7 @@ module _ (s : Start) (cs : List Call) (vs : List Seen) (z : List ℕ) (run : Ima
     resends (accepted (opened b)) e l = absurd (omega arith)
     resends (accepted filed) e l = absurd (omega arith)
     resends (accepted (ended b)) e l = absurd (omega arith)
+    resends (accepted converted) e l = absurd (omega arith)
     resends (accepted (checked Free)) e l = absurd (omega arith)
     resends (accepted (checked (Within a))) e l = at_ends (Within a) a e refl
     resends (accepted (checked (Below a))) e l = let r = at_ends (Below a) a e refl in record { at_lowest = r.at_lowest; at_highest = r.at_highest }

@@ -5,7 +5,7 @@ use native.Mathlib.Omega.{arith}
 use lib.Dec.{eqb}
 use borrow.Author.Tests.{ne_eqb}
 use Rattle.grain.specs.declared.check.Verdict.TheVariants.{Free, Within, Below, Above}
-use Rattle.record.specs.Record.{opened, filed, ended, checked, Answer, refused, accepted}
+use Rattle.record.specs.Record.{opened, filed, ended, converted, checked, Answer, refused, accepted}
 use Rattle.record.specs.Theorems.{is_refusal}
 use Rattle.std.specs.Prelude.{Bool, true, false, not, [], ◌∷◌, None, unwrap_or}
 use Rattle.grain.specs.Refusals.{unfit_amount}
@@ -20,6 +20,7 @@ number_of n l h (refused m) = refl
 number_of n l h (accepted (opened bs)) = ne_eqb 0 n (omega arith)
 number_of n l h (accepted filed) = ne_eqb 0 n (omega arith)
 number_of n l h (accepted (ended es)) = ne_eqb 0 n (omega arith)
+number_of n l h (accepted converted) = ne_eqb 0 n (omega arith)
 number_of n l h (accepted (checked Free)) = ne_eqb 100 n (omega arith)
 number_of n l h (accepted (checked (Within s))) = ne_eqb 101 n (omega arith)
 number_of n l h (accepted (checked (Below s))) = ne_eqb 102 n (omega arith)

@@ -7,13 +7,14 @@ use contract.Lifetimes.{Lfts}
 use Rattle.record.specs.Record.{opening, sheet, end}
 use Rattle.opening.specs.Opens.{day_on}
 use Rattle.gateway.specs.declared.spans.Spanned.{Spanned}
-use Rattle.gateway.specs.Calls.{RespondsImage, image_check, image_span, FoundsImage}
+use Rattle.gateway.specs.Calls.{RespondsImage, ConvertsImage, image_check, image_span, FoundsImage}
 use Rattle.tally.specs.Words.{tally_in}
 use Rattle.gateway.specs.Tallied.{TalliesBare, TalliesImage}
 use Rattle.gateway.proofs.calls.botskhela_found.Reads as founds
 use Rattle.gateway.proofs.calls.botskhela_open.Reads as opens
 use Rattle.gateway.proofs.calls.botskhela_sheet.Reads as files
 use Rattle.gateway.proofs.calls.botskhela_end.Reads as ends
+use Rattle.gateway.proofs.calls.botskhela_convert.Reads as converts
 use Rattle.gateway.proofs.calls.botskhela_check.Reads as checks
 use Rattle.gateway.proofs.spans.botskhela_check_span.Reads as checks-span
 use Rattle.gateway.proofs.tallied.botskhela_tallied_check.Reads as tallied-check
@@ -45,6 +46,12 @@ end_says κs a r s q = q
 
 pub end_asks : (κs : Lfts 1) (a : _) → ends.Pre κs a
 end_asks κs a = tt
+
+pub convert_says : (κs : Lfts 1) (a : _) (r : ℕ) (s : _) → converts.Post κs a r s → ConvertsImage a.0.now r s.0.now
+convert_says κs a r s q = q
+
+pub convert_asks : (κs : Lfts 1) (a : _) → converts.Pre κs a
+convert_asks κs a = tt
 
 pub check_says : (κs : Lfts 1) (a : _) (r : ℕ) (s : _) → checks.Post κs a r s
     → r ≡ image_check a.0.now a.1.0 a.1.1.0 a.1.1.1.0 a.1.1.1.1.0

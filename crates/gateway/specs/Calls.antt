@@ -7,7 +7,7 @@ use Rattle.grain.specs.Bare.{no_span, span_or}
 use Rattle.grain.specs.declared.check.Span.{Span}
 use Rattle.record.specs.State.{group_count}
 use Rattle.record.specs.Founding.{Start, founding_refusal, founded}
-use Rattle.record.specs.Record.{Change, check, Call, change, question, opened, filed, ended, checked, Answer, refused, accepted, refusal, respond}
+use Rattle.record.specs.Record.{Change, convert, check, Call, change, question, opened, filed, ended, converted, checked, Answer, refused, accepted, refusal, respond}
 use Rattle.book.specs.Book.{view}
 use Rattle.image.specs.Places.{event_words}
 use Rattle.image.specs.Image.{flag_word, book_in}
@@ -20,6 +20,7 @@ answer_number (refused n) = n
 answer_number (accepted (opened l)) = 0
 answer_number (accepted filed) = 0
 answer_number (accepted (ended l)) = 0
+answer_number (accepted converted) = 0
 answer_number (accepted (checked v)) = verdict_number v
 
 -- what stands in renewed after a call, of what stood there: an accepted opening's answer, in a word for each product
@@ -28,6 +29,7 @@ renewed_after (refused n) rs = rs
 renewed_after (accepted (opened l)) rs = map flag_word l
 renewed_after (accepted filed) rs = rs
 renewed_after (accepted (ended l)) rs = rs
+renewed_after (accepted converted) rs = rs
 renewed_after (accepted (checked v)) rs = rs
 
 -- what stands in events after a call: what an accepted end did, in three words for each group
@@ -36,6 +38,7 @@ events_after (refused n) es = es
 events_after (accepted (opened l)) es = es
 events_after (accepted filed) es = es
 events_after (accepted (ended l)) es = flat_map words_of_event l
+events_after (accepted converted) es = es
 events_after (accepted (checked v)) es = es
 
 -- what the Record of the book in the words answers
@@ -51,6 +54,11 @@ pub record RespondsImage (ws : List ℕ) (c : Change) (n : ℕ) (now : List ℕ)
   pub events : events_in now ≡ events_after (answer_to ws (change c)) (events_in ws)
   pub unchanged : (m : ℕ) → refusal (view (book_in ws)) (change c) ≡ Some m → now ≡ ws
 
+-- A conversion leaves the very words of a book under 2023 too.
+pub record ConvertsImage (ws : List ℕ) (n : ℕ) (now : List ℕ) : Type 0 where
+  pub responds : RespondsImage ws convert n now
+  pub same : (book_in ws).edition ≡ 2023 → now ≡ ws
+
 -- the number that a check returns, which is lent the words to read only
 abbrev pub image_check : List ℕ → ℕ → ℕ → ℕ → ℕ → ℕ
 image_check ws p size month price = answer_number (answer_to ws (question (check p size month price)))
@@ -61,6 +69,7 @@ answer_span (refused n) = no_span
 answer_span (accepted (opened l)) = no_span
 answer_span (accepted filed) = no_span
 answer_span (accepted (ended l)) = no_span
+answer_span (accepted converted) = no_span
 answer_span (accepted (checked v)) = span_or (span_in v)
 
 abbrev pub with_span : Answer → Spanned

@@ -85,7 +85,7 @@ pub record WholeImages : Type 0 where
       (s : Start) (cs ds : List Call) (us vs : List Seen) (y z : List ℕ) → ImageRun s cs us y → ImageRun s (cs ++ ds) vs z
       → (p q i j month x w : ℕ) (v : Verdict)
       → answer_to y (question (check p i month x)) ≡ accepted (checked Free) → answer_to z (question (check q j month w)) ≡ accepted (checked v) → v ≡ Free
-  -- two lists with the same edition and founding limits that agree on the accepted openings and ends and on one group's sheets of each day:
+  -- two lists with the same edition and founding limits that agree on the accepted openings, ends and conversions and on one group's sheets of each day:
   -- the same day is open after both, or none
   pub same_day :
       (s : Start) (g : ℕ) (cs ds : List Call) (us vs : List Seen) (y z : List ℕ) → ImageRun s cs us y → ImageRun s ds vs z

@@ -2,9 +2,10 @@
 ghost use Rattle.std.specs.Prelude.{[], ◌∷◌, ◌≡◌};
 ghost use Rattle.record.specs.Record.{opening, sheet, end};
 ghost use Rattle.opening.specs.Opens.{day_on};
-ghost use Rattle.gateway.specs.Calls.{RespondsImage, image_check, FoundsImage};
+ghost use Rattle.gateway.specs.Calls.{RespondsImage, ConvertsImage, image_check, FoundsImage};
 ghost use Rattle.gateway.specs.Written.{Writes};
 
+use book::EDITION_2023;
 use grain::Refusal;
 use image::{WORDS, book_in, put_alone, put_ended, put_founded, put_opened};
 use record::Day;
@@ -99,6 +100,23 @@ pub extern "C" fn botskhela_end(words: &mut [u32; WORDS]) -> u32
     let mut b = book_in(words);
     let events = ending::end(&mut b);
     write(words, events, |w, events| put_ended(w, &b, *events))
+}
+
+#[unsafe(no_mangle)]
+pub extern "C" fn botskhela_convert(words: &mut [u32; WORDS]) -> u32
+    ensures { ConvertsImage words.old result words.new }
+{
+    let mut b = book_in(words);
+    let edition = b.edition;
+    if let Err(refusal) = converting::convert(&mut b) {
+        return refusal.into();
+    }
+    // The words of a book under 2023 stay as they are.
+    if edition == EDITION_2023 {
+        return 0;
+    }
+    put_alone(words, &b);
+    0
 }
 
 #[unsafe(no_mangle)]

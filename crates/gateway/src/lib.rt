@@ -9,7 +9,10 @@ mod calls;
 mod spans;
 mod tallied;
 
-pub use calls::{botskhela_check, botskhela_end, botskhela_found, botskhela_open, botskhela_sheet};
+pub use calls::{
+    botskhela_check, botskhela_convert, botskhela_end, botskhela_found, botskhela_open,
+    botskhela_sheet,
+};
 pub use spans::{Spanned, botskhela_bare_highest, botskhela_bare_lowest, botskhela_check_span};
 pub use tallied::{botskhela_tallied_book_check, botskhela_tallied_check};
 

@@ -7,7 +7,7 @@ use Rattle.grain.specs.declared.refusals.Refusal.TheVariants.{Unsound, WrongPhas
 abbrev pub unsound : ℕ
 unsound = 1
 
--- opening with a day open; sheet, end or check with none
+-- opening or conversion with a day open; sheet, end or check with none
 abbrev pub wrong_phase : ℕ
 wrong_phase = 2
 

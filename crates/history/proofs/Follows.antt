@@ -4,7 +4,7 @@ use Rattle.record.specs.Record.{Change, Call, change, Answer, respond, state_aft
 use Rattle.book.specs.declared.Book.{Book}
 use Rattle.book.specs.Book.{view}
 use Rattle.book.specs.Calls.{Responds}
-use Rattle.history.specs.Step.{Step, opens, files, ends, checks}
+use Rattle.history.specs.Step.{Step, opens, files, ends, converts, checks}
 use Rattle.history.specs.Trace.{Trace, done, more}
 
 -- one call
@@ -20,6 +20,7 @@ unfolding respond
 stepped (opens r s) = changed s
 stepped (files r s) = changed s
 stepped (ends r s) = changed s
+stepped (converts r s) = changed s.responds
 stepped (checks r s) = record { answer = s; state = refl }
 
 -- a list

@@ -9,8 +9,9 @@ use Rattle.record.specs.State.{Record}
 use Rattle.record.specs.Opening.{opening_tests}
 use Rattle.record.specs.Sheet.{sheet_tests}
 use Rattle.record.specs.Check.{terms_tests, order_tests}
+use Rattle.record.specs.Conversion.{conversion_tests}
 use Rattle.record.specs.Sound.{is_sound}
-use Rattle.record.specs.Record.{opening, sheet, end, check, Call, change, question, tests, refusal}
+use Rattle.record.specs.Record.{opening, sheet, end, convert, check, Call, change, question, tests, refusal}
 
 abbrev is_numbered : Test → Bool
 is_numbered t = not (eqb t.number 0)
@@ -25,10 +26,11 @@ first_numbered (t ∷ l) n e = go t.applies t.number (and_left _ _ n) (first_num
     go false m k later h = later h
 
 numbered_tests : (r : Record) (c : Call) → every is_numbered (tests r c) ≡ true
-unfolding every ◌and◌ tests opening_tests sheet_tests terms_tests order_tests
+unfolding every ◌and◌ tests opening_tests sheet_tests conversion_tests terms_tests order_tests
 numbered_tests r (change (opening d)) = refl
 numbered_tests r (change (sheet p ms ss)) = refl
 numbered_tests r (change end) = refl
+numbered_tests r (change convert) = refl
 numbered_tests r (question (check p size month price)) = refl
 
 pub not-zero : (r : Record) (c : Call) → refusal r c ≡ Some 0 → ⊥

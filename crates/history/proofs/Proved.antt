@@ -1,5 +1,6 @@
 -- The theorem over whole lists of calls, proved.
-use Rattle.std.proofs.Common.{◌≡◌, ap, sym, ◌∙◌, ℕ, true, not, List, ◌++◌, None, Result, Ok, Err}
+use Rattle.std.proofs.Common.{◌≡◌, ap, sym, ◌∙◌, ℕ, true, not, cond, List, ◌++◌, None, Result, Ok, Err}
+use Rattle.std.specs.List.{list_any}
 use Rattle.grain.specs.Refusals.{number_of}
 use Rattle.grain.specs.declared.refusals.Refusal.{Refusal}
 use Rattle.grain.proofs.RefusalNumbers.{refusal_numbered, numbered_back}
@@ -12,7 +13,7 @@ use Rattle.record.specs.State.{Record, group_of, group_at}
 use Rattle.record.specs.Founding.{Start, founding_refusal, founded}
 use Rattle.record.specs.Record.{Call, Answer, state_after, answers}
 use Rattle.record.specs.History.{kept, SameFor}
-use Rattle.record.specs.Theorems.{after, history_of, is_refusal, has_raised, BetweenLimits}
+use Rattle.record.specs.Theorems.{after, history_of, is_refusal, has_raised, is_conversion, BetweenLimits}
 use Rattle.record.proofs.Proved.{theorems}
 use Rattle.book.specs.declared.Book.{Book}
 use Rattle.book.specs.Book.{view}
@@ -41,11 +42,16 @@ module _ (s : Start) (cs : List Call) (rs : List Answer) (z : Book) (run : Run s
   never_unsound_lem : every (λ a. not (is_refusal unsound a)) rs ≡ true
   never_unsound_lem = ap (every (λ a. not (is_refusal unsound a))) answers_are ∙ theorems.never_unsound s is_founded cs
 
-  keeps_edition_lem : z.edition ≡ s.edition
-  keeps_edition_lem = (agrees.compared s cs z contents_are).edition ∙ theorems.keeps_edition s cs
+  edition_is : z.edition ≡ (after s cs).common.edition
+  edition_is = (agrees.compared s cs z contents_are).edition
 
-  never_raised_lem : s.edition ≡ 2014 → every (λ a. not (has_raised a)) rs ≡ true
-  never_raised_lem e = ap (every (λ a. not (has_raised a))) answers_are ∙ theorems.never_raised s is_founded e cs
+  keeps_edition_lem : z.edition ≡ cond (list_any is_conversion (kept cs rs)) 2023 s.edition
+  keeps_edition_lem =
+      edition_is ∙ theorems.keeps_edition s cs ∙ ap (λ es. cond (list_any is_conversion es) 2023 s.edition) (sym history_is)
+
+  never_raised_lem : z.edition ≡ 2014 → every (λ a. not (has_raised a)) rs ≡ true
+  never_raised_lem e =
+      ap (every (λ a. not (has_raised a))) answers_are ∙ theorems.never_raised s is_founded cs (sym edition_is ∙ e)
 
 coupled : (s : Start) (cs : List Call) (rs : List Answer) (z : Book) → Run s cs rs z
     → (p q i j m n x y : ℕ) (v w : Verdict) → group_of p ≡ group_of q

@@ -9,11 +9,13 @@ use Rattle.book.specs.Founding.{Founds}
 use Rattle.opening.specs.Opens.{Opens}
 use Rattle.filing.specs.Files.{Files}
 use Rattle.ending.specs.Ends.{Ends}
+use Rattle.converting.specs.Converts.{Converts}
 use Rattle.checking.specs.Checks.{Checks}
 use Rattle.book.proofs.found.Reads as found
 use Rattle.opening.proofs.opening.Reads as opening
 use Rattle.filing.proofs.sheet.Reads as sheet
 use Rattle.ending.proofs.end.Reads as end
+use Rattle.converting.proofs.convert.Reads as convert
 use Rattle.checking.proofs.check.Reads as check
 
 pub found_says : (κs : contract.Lifetimes.Lfts 0) (a : _) (r : Result Book Refusal) (s : _)
@@ -43,6 +45,13 @@ end_says κs a r s q = q
 
 pub end_asks : (κs : contract.Lifetimes.Lfts 1) (a : _) → end.Pre κs a
 end_asks κs a = tt
+
+pub convert_says : (κs : contract.Lifetimes.Lfts 1) (a : _) (r : Result (Unit {0}) Refusal) (s : _)
+    → convert.Post κs a r s → Converts a.0.now r s.0.now
+convert_says κs a r s q = q
+
+pub convert_asks : (κs : contract.Lifetimes.Lfts 1) (a : _) → convert.Pre κs a
+convert_asks κs a = tt
 
 pub check_says : (κs : contract.Lifetimes.Lfts 1) (a : _) (r : Result Verdict Refusal) (s : _)
     → check.Post κs a r s → Checks a.0.now a.1.0 a.1.1.0 a.1.1.1.0 a.1.1.1.1.0 r

@@ -1,5 +1,6 @@
--- Whole lists of openings, sheets, ends and checks, refused ones included, from a fresh book. proofs/Proved.antt has the proofs.
-use Rattle.std.specs.Prelude.{ℕ, ◌<◌, ◌≡◌, true, not, List, ◌++◌, Some, Result, Ok}
+-- Whole lists of openings, sheets, ends, conversions and checks, refused ones included, from a fresh book. proofs/Proved.antt has the proofs.
+use Rattle.std.specs.Prelude.{ℕ, ◌<◌, ◌≡◌, true, not, cond, List, ◌++◌, Some, Result, Ok}
+use Rattle.std.specs.List.{list_any}
 use Rattle.grain.specs.declared.refusals.Refusal.{Refusal}
 use Rattle.grain.specs.Lists.{every}
 use Rattle.grain.specs.Products.{product_count}
@@ -12,7 +13,7 @@ use Rattle.record.specs.State.{Record, group_of, group_at, product_in}
 use Rattle.record.specs.Founding.{Start, founded}
 use Rattle.record.specs.Record.{Call, Answer, answers}
 use Rattle.record.specs.History.{kept, SameFor}
-use Rattle.record.specs.Theorems.{after, is_refusal, has_raised, Together, BetweenLimits, Resent}
+use Rattle.record.specs.Theorems.{after, is_refusal, has_raised, is_conversion, Together, BetweenLimits, Resent}
 use Rattle.sheets.specs.Sheets.{sheet_in}
 use Rattle.book.specs.declared.Book.{Book}
 use Rattle.book.specs.Book.{limit_in, window_of, standing_in, today_in, last_in, level_of, view}
@@ -54,10 +55,13 @@ pub record WholeHistory : Type 0 where
   pub never_unsound :
       (s : Start) (cs : List Call) (rs : List Answer) (z : Book) → Run s cs rs z
       → every (λ a. not (is_refusal unsound a)) rs ≡ true
-  -- the book is of the edition that it was founded under, and under 2014 no group is raised
-  pub keeps_edition : (s : Start) (cs : List Call) (rs : List Answer) (z : Book) → Run s cs rs z → z.edition ≡ s.edition
+  -- the book is of the edition that it was founded under until a conversion is accepted, and then of 2023
+  pub keeps_edition :
+      (s : Start) (cs : List Call) (rs : List Answer) (z : Book) → Run s cs rs z
+      → z.edition ≡ cond (list_any is_conversion (kept cs rs)) 2023 s.edition
+  -- while it is of 2014 no group is raised
   pub never_raised :
-      (s : Start) (cs : List Call) (rs : List Answer) (z : Book) → Run s cs rs z → s.edition ≡ 2014
+      (s : Start) (cs : List Call) (rs : List Answer) (z : Book) → Run s cs rs z → z.edition ≡ 2014
       → every (λ a. not (has_raised a)) rs ≡ true
   -- the products of a group stand on one level
   pub together : (s : Start) (cs : List Call) (rs : List Answer) (z : Book) → Run s cs rs z → Together (view z)
@@ -76,7 +80,7 @@ pub record WholeHistory : Type 0 where
   pub stays_free :
       (s : Start) (cs ds : List Call) (rs ts : List Answer) (y z : Book) → Run s cs rs y → Run s (cs ++ ds) ts z
       → (p q i j month x w : ℕ) (v : Verdict) → Checks y p i month x (Ok Free) → Checks z q j month w (Ok v) → v ≡ Free
-  -- two lists with the same edition and founding limits that agree on the accepted openings and ends and on one group's sheets of each day:
+  -- two lists with the same edition and founding limits that agree on the accepted openings, ends and conversions and on one group's sheets of each day:
   -- the same day is open after both, or none
   pub same_day :
       (s : Start) (g : ℕ) (cs ds : List Call) (rs ts : List Answer) (y z : Book)

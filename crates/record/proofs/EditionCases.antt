@@ -5,16 +5,11 @@ use mathlib.Core.Bool.{true, false}
 use mathlib.Core.List.{List, [], ◌∷◌, ◌++◌, map}
 use lib.ListN.{replicate}
 use Rattle.grain.specs.Dates.{contract_month}
-use Rattle.record.specs.State.{Day, Level, Record, initial, expanded}
+use Rattle.record.specs.State.{Day, Level, initial, expanded}
 use Rattle.record.specs.Edition.{of2014}
-use Rattle.record.specs.Founding.{founded}
 use Rattle.record.specs.End.{Event, event_of, Quiet, Triggered, Held, Reverted}
 use Rattle.record.specs.Record.{Call}
-use Rattle.record.proofs.Examples.{corn, soybeans, oil, meal, chicago_wheat, kc_wheat, oats, rice, corn_group, complex, wheats, jul24, aug24, sep24, oct24, dec24, mar25, may25, jul25, june3, june4, june5, june6, corn_at200, a_book, files, one_contract, full_day, not_corn, corn_day, flat, not_complex, complex_day, state_of, limits, lead, Outcome, outcome, in_one_run}
-
--- the example book, of 2014
-abbrev old_book : Record
-old_book = founded (record { edition = 2014; limits = corn_at200.limits })
+use Rattle.record.proofs.Examples.{corn, soybeans, oil, meal, chicago_wheat, kc_wheat, oats, rice, corn_group, complex, wheats, jul24, aug24, sep24, oct24, dec24, mar25, may25, jul25, june3, june4, june5, june6, a_book, old_book, files, one_contract, full_day, not_corn, corn_day, flat, not_complex, complex_day, state_of, limits, lead, Outcome, outcome, in_one_run}
 
 -- what is left of Corn: its limits stay, and there is no mark
 abbrev corn_left : List Event → Level → Outcome

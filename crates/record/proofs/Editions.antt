@@ -1,9 +1,10 @@
--- A book stays of its edition; under 2014 no group is marked, and none is raised.
+-- The edition of a book after a list; under 2014 no group is marked, and none is raised.
 use Prim.Native.Nat.{ℕ}
-use mathlib.Core.Path.{◌≡◌, refl, ◌∙◌}
-use mathlib.Core.Bool.{Bool, true, false, not, ◌&&◌, ◌||◌}
+use mathlib.Core.Path.{◌≡◌, refl}
+use mathlib.Core.Bool.{Bool, true, false, not, ◌&&◌, ◌||◌, cond}
 use mathlib.Core.List.{List, [], ◌∷◌, map}
 use Rattle.std.specs.Prelude.{Option, Some, None}
+use native.Mathlib.Omega.{arith}
 use Rattle.std.specs.List.{list_any}
 use Rattle.grain.specs.Lists.{every}
 use Rattle.grain.proofs.Tests.{and_left, and_right, both}
@@ -14,35 +15,46 @@ use Rattle.record.specs.Edition.{Conditions, conditions_of}
 use Rattle.record.specs.Founding.{Start, founding_refusal, founded}
 use Rattle.record.specs.End.{Lead, Quiet, Triggered, Held, Reverted, leading, led_by, triggering, event_of, group_event, is_raised}
 use Rattle.record.specs.Sound.{is_expanded, is_sound_group, is_sound}
-use Rattle.record.specs.Record.{Change, opening, sheet, end, check, Call, change, question, Accepted, accepted, refusal, answer, next_common, next, next_by, answer_by, respond, state_after, answers}
-use Rattle.record.specs.Theorems.{after, has_raised}
+use Rattle.record.specs.Record.{Change, opening, sheet, end, convert, check, Call, change, question, Accepted, accepted, refusal, answer, next_common, next, next_by, answer_by, respond, state_after, answers}
+use Rattle.record.specs.History.{Entry, a_day, a_conversion}
+use Rattle.record.specs.Replay.{common_after, replay}
+use Rattle.record.specs.Theorems.{after, history_of, has_raised, is_conversion}
+use Rattle.record.proofs.Replayed.{replayed}
 use Rattle.record.proofs.SoundCalls.{facts}
 use Rattle.record.proofs.StaysSound.{founded_sound, respond_sound}
 
--- ---- the edition stays
-next-edition : (r : Record) (c : Change) → (next r c).common.edition ≡ r.common.edition
+-- ---- of the edition of its founding, or of 2023 after a conversion
+edition-by : (es : List Entry) (c : Common) → (common_after es c).edition ≡ cond (list_any is_conversion es) 2023 c.edition
+edition-by [] c = refl
+edition-by (a_day k ∷ es) c = edition-by es c
+edition-by (a_conversion ∷ es) c = refl
+
+pub keeps_edition_lem : (s : Start) (cs : List Call)
+    → (after s cs).common.edition ≡ cond (list_any is_conversion (history_of s cs)) 2023 s.edition
+unfolding replay founded
+keeps_edition_lem s cs = rw (replayed s cs) (edition-by (history_of s cs) (founded s).common)
+
+-- ---- a Record of 2014 was so before every call
+next_before : (r : Record) (c : Change) → (next r c).common.edition ≡ 2014 → r.common.edition ≡ 2014
 unfolding next next_common
-next-edition r (opening d) = refl
-next-edition r (sheet p ms ss) = refl
-next-edition r end = refl
+next_before r (opening d) e = e
+next_before r (sheet p ms ss) e = e
+next_before r end e = e
+next_before r convert e = let z : ◌≡◌ {A = ℕ} 2023 2014 = e in absurd (omega arith)
 
-respond-edition : (r : Record) (c : Call) → (respond r c).state.common.edition ≡ r.common.edition
+respond_before : (r : Record) (c : Call) → (respond r c).state.common.edition ≡ 2014 → r.common.edition ≡ 2014
 unfolding respond
-respond-edition r (change c) = go (refusal r (change c))
+respond_before r (change c) e = go (refusal r (change c)) e
   where
-    go : (o : Option ℕ) → (next_by o r c).common.edition ≡ r.common.edition
-    go (Some n) = refl
-    go None = next-edition r c
-respond-edition r (question q) = refl
+    go : (o : Option ℕ) → (next_by o r c).common.edition ≡ 2014 → r.common.edition ≡ 2014
+    go (Some n) e = e
+    go None e = next_before r c e
+respond_before r (question q) e = e
 
-edition-kept : (r : Record) (cs : List Call) → (state_after r cs).common.edition ≡ r.common.edition
+list_before : (r : Record) (cs : List Call) → (state_after r cs).common.edition ≡ 2014 → r.common.edition ≡ 2014
 unfolding state_after
-edition-kept r [] = refl
-edition-kept r (c ∷ cs) = edition-kept (respond r c).state cs ∙ respond-edition r c
-
-pub keeps_edition_lem : (s : Start) (cs : List Call) → (after s cs).common.edition ≡ s.edition
-unfolding founded
-keeps_edition_lem s cs = edition-kept (founded s) cs
+list_before r [] e = e
+list_before r (c ∷ cs) e = respond_before r c (list_before (respond r c).state cs e)
 
 -- ---- a group with no mark is not raised
 unmarked_event : (k : Conditions) (l : Level) (mss : List (List Move)) → is_raised (event_of k l false mss) ≡ false
@@ -83,21 +95,21 @@ unfolding answer
 own_answer r (change (opening d)) t e = refl
 own_answer r (change (sheet p ms ss)) t e = refl
 own_answer r (change end) t e = rw (none_raised r.common r.groups e (facts r t).groups)
+own_answer r (change convert) t e = refl
 own_answer r (question (check p size month price)) t e = refl
 
 answered : (o : Option ℕ) (a : Accepted) → not (has_raised (accepted a)) ≡ true → not (has_raised (answer_by o a)) ≡ true
 answered (Some n) a t = refl
 answered None a t = t
 
-none_raises : (r : Record) (cs : List Call) → is_sound r ≡ true → r.common.edition ≡ 2014
+none_raises : (r : Record) (cs : List Call) → is_sound r ≡ true → (state_after r cs).common.edition ≡ 2014
     → every (λ a. not (has_raised a)) (answers r cs) ≡ true
-unfolding every answers respond
+unfolding every answers respond state_after
 none_raises r [] t e = refl
 none_raises r (c ∷ cs) t e =
-    both _ _ (answered (refusal r c) (answer r c) (own_answer r c t e))
-    (none_raises (respond r c).state cs (respond_sound r c t) (respond-edition r c ∙ e))
+    both _ _ (answered (refusal r c) (answer r c) (own_answer r c t (list_before r (c ∷ cs) e)))
+    (none_raises (respond r c).state cs (respond_sound r c t) e)
 
-pub never_raised_lem : (s : Start) → founding_refusal s ≡ None → s.edition ≡ 2014 → (cs : List Call)
+pub never_raised_lem : (s : Start) → founding_refusal s ≡ None → (cs : List Call) → (after s cs).common.edition ≡ 2014
     → every (λ a. not (has_raised a)) (answers (founded s) cs) ≡ true
-unfolding founded
-never_raised_lem s f e cs = none_raises (founded s) cs (founded_sound s f) e
+never_raised_lem s f cs e = none_raises (founded s) cs (founded_sound s f) e

@@ -1,7 +1,7 @@
 -- Example books and days, for the vectors.
 use Prim.Native.Nat.{ℕ, zero, suc, ◌+◌}
 use mathlib.Core.Path.{◌≡◌, refl, sym, ◌∙◌, ap}
-use mathlib.Core.Bool.{Bool}
+use mathlib.Core.Bool.{Bool, true, false}
 use mathlib.Core.List.{List, [], ◌∷◌, ◌++◌, map}
 use lib.ListN.{get_or, replicate}
 use Rattle.grain.specs.Lists.{◌and◌, every, is_ascending}
@@ -23,7 +23,8 @@ use Rattle.record.specs.Edition.{conditions_of}
 use Rattle.record.specs.End.{Event, Quiet, Lead, event_of, group_event, end_product, end_group}
 use Rattle.record.specs.Check.{terms_tests, order_tests, judged}
 use Rattle.record.specs.Sound.{is_sound_sheet, is_sound_window, is_sound_product, is_sound_group, is_sound_date, is_sound}
-use Rattle.record.specs.Record.{opening, sheet, end, check, Call, change, question, opened, filed, ended, checked, Answer, refused, accepted, is_outstanding, tests, refusal, answer, next_common, next_group, next, Result, respond, state_after, answers}
+use Rattle.record.specs.Conversion.{conversion_tests}
+use Rattle.record.specs.Record.{opening, sheet, end, convert, check, Call, change, question, opened, filed, ended, converted, checked, Answer, refused, accepted, is_outstanding, tests, refusal, answer, next_common, next_group, next, Result, respond, state_after, answers}
 use Rattle.record.specs.History.{kept_from}
 
 -- ---- products, groups, contract months and days by name
@@ -138,23 +139,36 @@ corn_at200 = record { edition = 2023; limits = 200 ∷ 400 ∷ 200 ∷ 200 ∷ 2
 abbrev pub a_book : Record
 a_book = founded corn_at200
 
+-- the same under 2014
+abbrev pub old_start : Start
+old_start = record { edition = 2014; limits = corn_at200.limits }
+
+abbrev pub old_book : Record
+old_book = founded old_start
+
 abbrev collecting : (ℕ → List ℕ) → Group → Group
 collecting windows g = with_products (map (λ q. with_window (windows q.number) q) g.products) g
 
--- the same book with these windows
+-- a book with these windows
+abbrev with_windows : (ℕ → List ℕ) → Record → Record
+with_windows windows r = record { common = r.common; groups = map (collecting windows) r.groups }
+
 abbrev pub a_book_with : (ℕ → List ℕ) → Record
-a_book_with windows = record { common = a_book.common; groups = map (collecting windows) a_book.groups }
+a_book_with windows = with_windows windows a_book
 
 -- a settlement of each product
 abbrev usual_settlement : ℕ → ℕ
 usual_settlement p = get_or (6000 ∷ 8000 ∷ 5000 ∷ 4000 ∷ 4000 ∷ 4000 ∷ 1920 ∷ 3000 ∷ []) p 0
 
--- the same book with so many of it in each window
+-- a book with so many of it in each window
+abbrev pub collected_in : Record → ℕ → Record
+collected_in r n = with_windows (λ p. replicate n (usual_settlement p)) r
+
 abbrev pub collected_by : (ℕ → ℕ) → Record
 collected_by counts = a_book_with (λ p. replicate (counts p) (usual_settlement p))
 
 abbrev pub collected : ℕ → Record
-collected n = collected_by (λ p. n)
+collected n = collected_in a_book n
 
 -- ---- calls
 abbrev pub opens : Day → Call
@@ -166,6 +180,9 @@ files p ms ss = change (sheet p ms ss)
 
 abbrev pub ends : Call
 ends = change end
+
+abbrev pub converts : Call
+converts = change convert
 
 -- product, size, month, price
 abbrev pub checks : ℕ → ℕ → ℕ → ℕ → Call
@@ -227,8 +244,12 @@ days_of2025 calls (suc n) month day = calls (of2025 month day) ++ days_of2025 ca
 -- ---- what is computed
 -- The Record after a list of calls. Its line opens every definition of the Record, so that a vector names only this one.
 unfoldable pub state_of : Record → List Call → Record
-unfolding ◌and◌ every is_ascending steps floors firsts last_crop_months standard_ticks mini_ticks grain_months soybean_months oil_and_meal_months rice_months months_traded tick_of is_traded is_last_crop_month is_on_tick expanded_by season_by is_fit is_leap month_length is_date contract_month season_number days_remaining is_spot span_by verdict group_table found_product found_group founded are_fit founding_refusal is_true_day opening_tests is_renewed open_product has_new_limits open_group is_misshapen has_bad_month has_bad_settlement lacks_contract is_beyond sheet_tests file_product file_group collected_month window_after product_moves group_moves conditions_of event_of group_event end_product end_group terms_tests order_tests judged is_sound_sheet is_sound_window is_sound_product is_sound_group is_sound_date is_sound is_outstanding tests refusal answer next_common next_group next respond state_after answers kept_from
+unfolding ◌and◌ every is_ascending steps floors firsts last_crop_months standard_ticks mini_ticks grain_months soybean_months oil_and_meal_months rice_months months_traded tick_of is_traded is_last_crop_month is_on_tick expanded_by season_by is_fit is_leap month_length is_date contract_month season_number days_remaining is_spot span_by verdict group_table found_product found_group founded are_fit founding_refusal is_true_day opening_tests is_renewed open_product has_new_limits open_group is_misshapen has_bad_month has_bad_settlement lacks_contract is_beyond sheet_tests file_product file_group collected_month window_after product_moves group_moves conditions_of event_of group_event end_product end_group terms_tests order_tests judged is_sound_sheet is_sound_window is_sound_product is_sound_group is_sound_date is_sound conversion_tests is_outstanding tests refusal answer next_common next_group next respond state_after answers kept_from
 state_of r cs = state_after r cs
+
+-- an opening at which no product gets new limits
+abbrev pub opened_anew : Answer
+opened_anew = accepted (opened (replicate 8 false))
 
 -- the answers to further calls after a list of calls
 abbrev pub answers_after : Record → List Call → List Call → List Answer
@@ -258,6 +279,7 @@ events_of g (refused n ∷ l) = events_of g l
 events_of g (accepted (opened new) ∷ l) = events_of g l
 events_of g (accepted filed ∷ l) = events_of g l
 events_of g (accepted (ended events) ∷ l) = get_or events g Quiet ∷ events_of g l
+events_of g (accepted converted ∷ l) = events_of g l
 events_of g (accepted (checked v) ∷ l) = events_of g l
 
 -- What a list of calls makes of a group.
@@ -321,6 +343,24 @@ renewal_by t =
       answer = t.answer;
       limits = map limits_of (products_of t.state);
       windows = windows_of t.state;
+    }
+
+-- all eight by windows of the settlements above, which are then empty
+abbrev pub all_renewed : Renewal
+all_renewed =
+    record {
+      answer = accepted (opened (replicate 8 true));
+      limits =
+          limits 440 680
+          ∷ limits 560 840
+          ∷ limits 350 550
+          ∷ limits 300 450
+          ∷ limits 280 440
+          ∷ limits 280 440
+          ∷ limits 160 240
+          ∷ limits 210 320
+          ∷ [];
+      windows = replicate 8 [];
     }
 
 abbrev pub renewal : Record → List Call → Day → Renewal

@@ -1,4 +1,4 @@
--- A group's part of the Record depends on the openings, the ends and that group's sheets alone.
+-- A group's part of the Record depends on the openings, the ends, the conversions and that group's sheets alone.
 use Prim.Native.Nat.{ℕ, zero, suc}
 use mathlib.Core.Path.{◌≡◌, refl, ap, ap₂, ◌∙◌}
 use mathlib.Core.Bool.{Bool, true, false}
@@ -9,7 +9,7 @@ use Rattle.record.specs.Founding.{Start, found_product, found_group, founded}
 use Rattle.record.specs.Opening.{open_group, open_product}
 use Rattle.record.specs.End.{end_group, end_product}
 use Rattle.record.specs.Record.{Call}
-use Rattle.record.specs.History.{ProductSheet, Entry, a_day, sheet_among, milestone, openings_and_ends, sheets_on, sheets_of, products_of, SameFor}
+use Rattle.record.specs.History.{ProductSheet, Entry, a_day, a_conversion, sheet_among, milestone, milestones_of, sheets_on, sheets_of, products_of, SameFor}
 use Rattle.record.specs.Replay.{product_with, group_with, ended_if, common_by, group_by, common_after, group_after, replay}
 use Rattle.record.specs.Theorems.{after, history_of}
 use Rattle.record.proofs.Maps.{map-map, map_same}
@@ -34,6 +34,7 @@ end_numbers false c g = refl
 
 entry_numbers : (e : Entry) (c : Common) (g : Group) → numbers (group_by e c g) ≡ numbers g
 entry_numbers (a_day k) c g = end_numbers k.is_ended _ _ ∙ with_numbers k.sheets _ ∙ open_numbers c k.day g
+entry_numbers a_conversion c g = refl
 
 after-numbers : (es : List Entry) (c : Common) (g : Group) → numbers (group_after es c g) ≡ numbers g
 unfolding group_after
@@ -63,6 +64,9 @@ entry_common (a_day k) (a_day l) c m =
     let d : k.day ≡ l.day = cc in
     let b : k.is_ended ≡ l.is_ended = cc in
     rw (d, b)
+entry_common (a_day k) a_conversion c m = cc
+entry_common a_conversion (a_day k) c m = cc
+entry_common a_conversion a_conversion c m = refl
 
 entry_group : (ps : List ℕ) (e f : Entry) (c : Common) (g : Group) → numbers g ≡ ps
     → milestone e ≡ milestone f → sheets_on ps e ≡ sheets_on ps f → group_by e c g ≡ group_by f c g
@@ -70,18 +74,21 @@ entry_group ps (a_day k) (a_day l) c g n m s =
     let d : k.day ≡ l.day = cc in
     let b : k.is_ended ≡ l.is_ended = cc in
     rw (d, b, with_same k.sheets l.sheets ps (open_group c l.day g) (open_numbers c l.day g ∙ n) s)
+entry_group ps (a_day k) a_conversion c g n m s = cc
+entry_group ps a_conversion (a_day k) c g n m s = cc
+entry_group ps a_conversion a_conversion c g n m s = refl
 
-common_same : (c : Common) (es fs : List Entry) → openings_and_ends es ≡ openings_and_ends fs → common_after es c ≡ common_after fs c
+common_same : (c : Common) (es fs : List Entry) → milestones_of es ≡ milestones_of fs → common_after es c ≡ common_after fs c
 common_same c [] [] m = refl
 common_same c [] (f ∷ fs) m = cc
 common_same c (e ∷ es) [] m = cc
 common_same c (e ∷ es) (f ∷ fs) m =
     let first : milestone e ≡ milestone f = cc in
-    let rest : openings_and_ends es ≡ openings_and_ends fs = cc in
+    let rest : milestones_of es ≡ milestones_of fs = cc in
     entry_common e f (common_after es c) first ∙ ap (common_by f) (common_same c es fs rest)
 
 module _ (ps : List ℕ) (c : Common) (g : Group) (n : numbers g ≡ ps) where
-  group_same : (es fs : List Entry) → openings_and_ends es ≡ openings_and_ends fs → sheets_of ps es ≡ sheets_of ps fs
+  group_same : (es fs : List Entry) → milestones_of es ≡ milestones_of fs → sheets_of ps es ≡ sheets_of ps fs
       → group_after es c g ≡ group_after fs c g
   unfolding group_after
   group_same [] [] m s = refl
@@ -89,7 +96,7 @@ module _ (ps : List ℕ) (c : Common) (g : Group) (n : numbers g ≡ ps) where
   group_same (e ∷ es) [] m s = cc
   group_same (e ∷ es) (f ∷ fs) m s =
       let m₁ : milestone e ≡ milestone f = cc in
-      let m₂ : openings_and_ends es ≡ openings_and_ends fs = cc in
+      let m₂ : milestones_of es ≡ milestones_of fs = cc in
       let s₁ : sheets_on ps e ≡ sheets_on ps f = cc in
       let s₂ : sheets_of ps es ≡ sheets_of ps fs = cc in
       rw (common_same c es fs m₂, group_same es fs m₂ s₂)
@@ -113,11 +120,11 @@ module _ (s : Start) (g : ℕ) (cs ds : List Call) (same : SameFor g (history_of
   pub same_day : (after s cs).common ≡ (after s ds).common
   unfolding replay
   same_day =
-      rw (replayed s cs, replayed s ds) (common_same (founded s).common (history_of s cs) (history_of s ds) same.openings)
+      rw (replayed s cs, replayed s ds) (common_same (founded s).common (history_of s cs) (history_of s ds) same.milestones)
 
   pub same_group : group_at (after s cs) g ≡ group_at (after s ds) g
   unfolding replay founded
   same_group =
       rw (replayed s cs, replayed s ds)
       (at_same _ _ (founded s).groups g
-      (group_same (products_of g) (founded s).common (group_at (founded s) g) (found_numbers s group_table g) _ _ same.openings same.sheets))
+      (group_same (products_of g) (founded s).common (group_at (founded s) g) (found_numbers s group_table g) _ _ same.milestones same.sheets))

@@ -24,6 +24,7 @@ pub mod Marked
 pub mod EndCases
 pub mod WheatCases
 pub mod EditionCases
+pub mod ConversionCases
 pub mod SeasonCases
 pub mod SeasonStartCases
 pub mod WindowCases

@@ -1,14 +1,13 @@
 -- Refused foundings, openings, sheets and ends, computed.
 use Prim.Native.Nat.{ℕ}
 use mathlib.Core.Path.{◌≡◌, refl}
-use mathlib.Core.Bool.{false}
 use mathlib.Core.List.{List, [], ◌∷◌, ◌++◌, map}
 use Rattle.std.specs.Prelude.{Option, Some, None}
 use lib.ListN.{replicate, take}
 use Rattle.grain.specs.Dates.{contract_month}
 use Rattle.record.specs.Founding.{founding_refusal}
-use Rattle.record.specs.Record.{Call, opened, filed, Answer, refused, accepted}
-use Rattle.record.proofs.Examples.{corn, oil, jul24, aug24, sep24, oct24, dec24, mar25, may25, jul25, june3, june4, june5, june26, june27, on, corn_at200, a_book, opens, files, ends, one_contract, corn_months, corn_day, flat, state_of, answers_after}
+use Rattle.record.specs.Record.{Call, filed, refused, accepted}
+use Rattle.record.proofs.Examples.{corn, oil, jul24, aug24, sep24, oct24, dec24, mar25, may25, jul25, june3, june4, june5, june26, june27, on, corn_at200, a_book, opens, files, ends, one_contract, corn_months, corn_day, flat, state_of, opened_anew, answers_after}
 
 -- ---- founding: 17 13
 abbrev founding_of : ℕ → List ℕ → Option ℕ
@@ -40,9 +39,6 @@ unfolding state_of
 no_edition = refl
 
 -- ---- opening: 2 3 4 16
-abbrev opened_anew : Answer
-opened_anew = accepted (opened (replicate 8 false))
-
 -- 2 before 3: a false date with a day open
 pub day_open :
     answers_after a_book [] (opens (on 2024 2 29 0) ∷ opens (on 2024 2 30 0) ∷ []) ≡ opened_anew ∷ refused 2 ∷ []

@@ -1,17 +1,18 @@
 -- The Record after a list of calls is the replay of its history.
 use Prim.Native.Nat.{ℕ}
-use mathlib.Core.Path.{◌≡◌, refl, ap, sym, ◌∙◌}
+use mathlib.Core.Path.{◌≡◌, refl, ap, ap₂, sym, ◌∙◌}
 use mathlib.Core.Bool.{Bool, true, false, not, cond}
 use mathlib.Core.List.{List, [], ◌∷◌}
 use Rattle.std.specs.Prelude.{Option, Some, None}
 use lib.Dec.{eqb}
 use borrow.Author.Tests.{not-false}
-use Rattle.record.specs.State.{Day, Sheet, Product, Group, Common, Record, with_opened, with_is_open, with_products, with_today}
+use Rattle.record.specs.State.{Day, Sheet, Product, Group, Common, Record, with_edition, with_opened, with_is_open, with_products, with_today}
 use Rattle.record.specs.Founding.{Start, founded}
 use Rattle.record.specs.Opening.{open_group}
 use Rattle.record.specs.Sheet.{contracts, file_product, file_group}
-use Rattle.record.specs.Record.{Change, opening, sheet, end, Call, change, question, tests, refusal, next, next_common, next_group, next_by, respond, state_after}
-use Rattle.record.specs.History.{ProductSheet, Entry, a_day, add, sheet_among}
+use Rattle.record.specs.Conversion.{conversion_tests}
+use Rattle.record.specs.Record.{Change, opening, sheet, end, convert, Call, change, question, tests, refusal, next, next_common, next_group, next_by, respond, state_after}
+use Rattle.record.specs.History.{ProductSheet, Entry, a_day, a_conversion, add, sheet_among}
 use Rattle.record.specs.Replay.{common_after, over, product_with, group_with, group_after, replay}
 use Rattle.record.specs.Theorems.{after, history_of}
 use Rattle.record.proofs.Maps.{map-map, map_same}
@@ -72,6 +73,15 @@ module _ (r₀ : Record) where
       ap (with_groups (with_opened (Some d) (with_is_open false (common_after es r₀.common))))
       (map-map _ _ _ (λ g. refl) r₀.groups)
 
+  -- a conversion, with no day open
+  accept_convert : (es : List Entry) → (common_after es r₀.common).is_open ≡ false
+      → next (replay es r₀) convert ≡ replay (add convert es) r₀
+  unfolding next next_common next_group replay group_after
+  accept_convert es e =
+      let c = common_after es r₀.common in
+      ap₂ (λ b l. with_groups (with_edition 2023 (with_is_open b c)) l) e
+      (map-map (next_group c convert) (group_after es r₀.common) (group_after (add convert es) r₀.common) (λ g. refl) r₀.groups)
+
 -- a Record with no day open
 unfoldable pub IsFresh : Record → Type 0
 IsFresh r = r.common.is_open ≡ false
@@ -81,18 +91,21 @@ module _ (r₀ : Record) (f : IsFresh r₀) where
       → next (replay es r₀) (sheet p ms ss) ≡ replay (add (sheet p ms ss) es) r₀
   unfolding IsFresh
   accept_sheet p ms ss [] o = cc
+  accept_sheet p ms ss (a_conversion ∷ es) o = cc
   accept_sheet p ms ss (a_day k ∷ es) o = sheet_on r₀ p ms ss k.day k.sheets k.is_ended es o
 
   accept_end : (es : List Entry) → (common_after es r₀.common).is_open ≡ true → next (replay es r₀) end ≡ replay (add end es) r₀
   unfolding IsFresh
   accept_end [] o = cc
+  accept_end (a_conversion ∷ es) o = cc
   accept_end (a_day k ∷ es) o = end_on r₀ k.day k.sheets k.is_ended es o
 
   accepted : (c : Change) (es : List Entry) → refusal (replay es r₀) (change c) ≡ None → next (replay es r₀) c ≡ replay (add c es) r₀
-  unfolding tests replay
+  unfolding tests conversion_tests replay
   accepted (opening d) es e = accept_opening r₀ d es
   accepted (sheet p ms ss) es e = accept_sheet p ms ss es (not-false _ (accepted_clear (replay es r₀) (change (sheet p ms ss)) e).1.0)
   accepted end es e = accept_end es (not-false _ (accepted_clear (replay es r₀) (change end) e).1.0)
+  accepted convert es e = accept_convert r₀ es (accepted_clear (replay es r₀) (change convert) e).1.0
 
   stepped : (c : Call) (es : List Entry)
       → (respond (replay es r₀) c).state ≡ replay (add_unless (refusal (replay es r₀) c) c es) r₀

@@ -5,11 +5,11 @@ use mathlib.Core.List.{List, [], ◌∷◌}
 use Rattle.std.specs.Prelude.{Option, Some, None}
 use Rattle.record.specs.State.{Sheet}
 use Rattle.record.specs.Record.{Call}
-use Rattle.record.specs.History.{Milestone, day_opened, openings_and_ends, sheets_of, products_of, SameFor}
+use Rattle.record.specs.History.{Milestone, day_opened, book_converted, milestones_of, sheets_of, products_of, SameFor}
 use Rattle.record.specs.Theorems.{history_of}
-use Rattle.record.proofs.Examples.{corn, soybeans, oil, meal, chicago_wheat, kc_wheat, oats, rice, complex, jul24, jul25, june3, june4, june5, corn_at200, opens, files, ends, checks, one_contract, corn_months, flat, state_of}
+use Rattle.record.proofs.Examples.{corn, soybeans, oil, meal, chicago_wheat, kc_wheat, oats, rice, complex, jul24, jul25, june3, june4, june5, old_start, opens, files, ends, converts, checks, one_contract, corn_months, flat, state_of}
 
--- a day is ended; on the next Oil's sheet is in
+-- a day is ended under 2014; on the next, under 2023, Oil's sheet is in
 abbrev some_calls : List Call
 some_calls =
     opens june3
@@ -22,6 +22,7 @@ some_calls =
     ∷ one_contract oats jul25 1920
     ∷ one_contract rice jul25 3000
     ∷ ends
+    ∷ converts
     ∷ opens june4
     ∷ one_contract oil jul25 5200
     ∷ []
@@ -43,9 +44,12 @@ other_calls =
     ∷ one_contract kc_wheat jul24 4004
     ∷ one_contract soybeans jul25 8000
     ∷ one_contract chicago_wheat jul24 4006
+    ∷ converts
     ∷ ends
     ∷ opens june3
+    ∷ converts
     ∷ opens june4
+    ∷ converts
     ∷ checks soybeans 0 jul25 8400
     ∷ one_contract corn jul24 4202
     ∷ one_contract oil jul25 5200
@@ -53,36 +57,37 @@ other_calls =
     ∷ opens june5
     ∷ []
 
--- the openings and ends of both, latest first
-abbrev the_openings : List Milestone
-the_openings = day_opened june4 false ∷ day_opened june3 true ∷ []
+-- the openings, ends and conversions of both, latest first
+abbrev the_milestones : List Milestone
+the_milestones = day_opened june4 false ∷ book_converted ∷ day_opened june3 true ∷ []
 
 -- the sheets of Soybeans, Oil and Meal of both
 abbrev the_sheets : List (List (Option Sheet))
 the_sheets =
     (None ∷ Some (record { month = jul25; settlement = 5200 } ∷ []) ∷ None ∷ [])
+    ∷ []
     ∷ (Some (record { month = jul25; settlement = 8000 } ∷ [])
     ∷ Some (record { month = jul25; settlement = 5000 } ∷ [])
     ∷ Some (record { month = jul25; settlement = 4000 } ∷ [])
     ∷ [])
     ∷ []
 
-some_openings : openings_and_ends (history_of corn_at200 some_calls) ≡ the_openings
+some_milestones : milestones_of (history_of old_start some_calls) ≡ the_milestones
 unfolding state_of
-some_openings = refl
+some_milestones = refl
 
-other_openings : openings_and_ends (history_of corn_at200 other_calls) ≡ the_openings
+other_milestones : milestones_of (history_of old_start other_calls) ≡ the_milestones
 unfolding state_of
-other_openings = refl
+other_milestones = refl
 
-some_sheets : sheets_of (products_of complex) (history_of corn_at200 some_calls) ≡ the_sheets
+some_sheets : sheets_of (products_of complex) (history_of old_start some_calls) ≡ the_sheets
 unfolding state_of
 some_sheets = refl
 
-other_sheets : sheets_of (products_of complex) (history_of corn_at200 other_calls) ≡ the_sheets
+other_sheets : sheets_of (products_of complex) (history_of old_start other_calls) ≡ the_sheets
 unfolding state_of
 other_sheets = refl
 
 -- so that what is shown of two such lists is not empty
-pub same_complex : SameFor complex (history_of corn_at200 some_calls) (history_of corn_at200 other_calls)
-same_complex = record { openings = some_openings ∙ sym other_openings; sheets = some_sheets ∙ sym other_sheets }
+pub same_complex : SameFor complex (history_of old_start some_calls) (history_of old_start other_calls)
+same_complex = record { milestones = some_milestones ∙ sym other_milestones; sheets = some_sheets ∙ sym other_sheets }

@@ -6,7 +6,7 @@ use mathlib.Core.List.{List, [], ◌∷◌, ◌++◌}
 use lib.ListN.{replicate}
 use Rattle.record.specs.State.{Day}
 use Rattle.record.specs.Record.{Call, opened, accepted}
-use Rattle.record.proofs.Examples.{corn, soybeans, oil, meal, chicago_wheat, kc_wheat, oats, rice, jul25, nov25, dec25, on, files, of2025, a_book, collected, one_contract, full_day, quiet_day, days_of2025, state_of, Limits, limits, renewal}
+use Rattle.record.proofs.Examples.{corn, soybeans, oil, meal, chicago_wheat, kc_wheat, oats, rice, jul25, nov25, dec25, on, files, of2025, a_book, collected, one_contract, full_day, quiet_day, days_of2025, state_of, Limits, limits, all_renewed, renewal}
 
 -- the limits of the example book
 abbrev as_founded : List Limits
@@ -60,20 +60,7 @@ all_no = replicate 8 false
 -- a 45th settlement and the next season: all eight, Oats too, whose new limits equal the old
 pub next_season :
     renewal (collected 44) (quiet_day (on 2025 2 14 0)) (on 2025 5 1 21)
-    ≡ record {
-      answer = accepted (opened (replicate 8 true));
-      limits =
-          limits 440 680
-          ∷ limits 560 840
-          ∷ limits 350 550
-          ∷ limits 300 450
-          ∷ limits 280 440
-          ∷ limits 280 440
-          ∷ limits 160 240
-          ∷ limits 210 320
-          ∷ [];
-      windows = replicate 8 [];
-    }
+    ≡ all_renewed
 unfolding state_of
 next_season = refl
 

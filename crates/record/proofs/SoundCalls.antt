@@ -15,10 +15,11 @@ use Rattle.record.specs.Opening.{is_true_day, opening_tests, open_product, open_
 use Rattle.record.specs.Sheet.{contracts, sheet_tests, file_product, file_group}
 use Rattle.record.specs.End.{group_event, end_product, end_group}
 use Rattle.record.specs.Sound.{is_sound_sheet, is_sound_product, is_sound_group, is_sound_date, every_product, has_no_sheet_in, has_last, has_no_last, is_sound}
-use Rattle.record.specs.Record.{Change, opening, sheet, end, change, is_outstanding, tests, next_common, next_group, next}
+use Rattle.record.specs.Record.{Change, opening, sheet, end, convert, change, is_outstanding, tests, next_common, next_group, next}
 use Rattle.record.proofs.Cleared.{Clear}
+use Rattle.record.proofs.Maps.{map_same}
 use Rattle.record.proofs.SoundSheets.{sheet_passed}
-use Rattle.record.proofs.SoundGroups.{open_group_lem, file_group_lem, end_group_lem}
+use Rattle.record.proofs.SoundGroups.{open_group_lem, file_group_lem, end_group_lem, convert_group}
 
 -- what soundness says of the Record, test by test
 pub record Facts (r : Record) : Type 0 where
@@ -126,6 +127,18 @@ ended_sound r o n f =
       lasts = rw (both _ _ (open_opened c.opened c.is_open f.date o) lasts);
     }
 
+converted_sound : (r : Record) → Facts r → Facts (next r convert)
+unfolding next next_common next_group
+converted_sound r f =
+    let left = map_same (next_group r.common convert) (λ g. refl) r.groups in
+    record {
+      edition = refl;
+      date = f.date;
+      groups = every_map _ (next_group r.common convert) _ (convert_group r.common.edition) r.groups f.groups;
+      resting = rw left f.resting;
+      lasts = rw left f.lasts;
+    }
+
 -- each test is read by its place in the call's order
 pub accepted_sound : (r : Record) (c : Change) → Clear (tests r (change c)) → is_sound r ≡ true → is_sound (next r c) ≡ true
 unfolding tests opening_tests sheet_tests
@@ -135,3 +148,4 @@ accepted_sound r (sheet p ms ss) e t =
     (filed_sound r p ms ss (not-false _ e.0)
     (sheet_passed (month_of (day_of r.common)) p ms ss e.1.1.1.0 e.1.1.1.1.0 e.1.1.1.1.1.0) (facts r t))
 accepted_sound r end e t = facts_sound _ (ended_sound r (not-false _ e.0) e.1.0 (facts r t))
+accepted_sound r convert e t = facts_sound _ (converted_sound r (facts r t))

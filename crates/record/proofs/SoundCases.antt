@@ -10,7 +10,7 @@ use Rattle.record.specs.State.{Day, Sheet, Level, initial, expanded, Product, Co
 use Rattle.record.specs.Sheet.{contracts}
 use Rattle.record.specs.Sound.{is_sound}
 use Rattle.record.specs.Record.{refused}
-use Rattle.record.proofs.Examples.{corn, jul24, aug24, sep24, june3, june4, on, a_book, opens, ends, checks, unmoved, quiet_day, state_of, answers_after}
+use Rattle.record.proofs.Examples.{corn, jul24, aug24, sep24, june3, june4, on, a_book, opens, ends, converts, checks, unmoved, quiet_day, state_of, answers_after}
 
 abbrev no_date : Common
 no_date = a_book.common
@@ -114,10 +114,15 @@ marks = refl
 
 -- no edition: every call is refused with 1
 pub no_edition :
-    answers_after (expanded_under 2015 false) [] (opens june3 ∷ unmoved corn ∷ ends ∷ checks corn 0 jul24 4000 ∷ [])
-    ≡ replicate 4 (refused 1)
+    answers_after (expanded_under 2015 false) [] (opens june3 ∷ unmoved corn ∷ ends ∷ converts ∷ checks corn 0 jul24 4000 ∷ [])
+    ≡ replicate 5 (refused 1)
 unfolding state_of
 no_edition = refl
+
+-- 1 before 18: an expanded group under 2014, with a mark
+pub marked_conversion : answers_after (expanded_under 2014 true) [] (converts ∷ []) ≡ refused 1 ∷ []
+unfolding state_of
+marked_conversion = refl
 
 -- a window of 46
 pub long_window : is_sound (with_window (replicate 46 6000)) ≡ false
@@ -193,6 +198,6 @@ out_of_range = refl
 pub unsound_first :
     answers_after (book no_date initial true (corn_with 200 320 [] None None)) []
     (opens (on 2023 2 29 0) ∷ unmoved 8 ∷ ends ∷ checks 8 0 sep24 4000 ∷ opens june4 ∷ [])
-    ≡ refused 1 ∷ refused 1 ∷ refused 1 ∷ refused 1 ∷ refused 1 ∷ []
+    ≡ replicate 5 (refused 1)
 unfolding state_of
 unsound_first = refl

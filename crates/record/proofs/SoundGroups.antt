@@ -58,3 +58,15 @@ end_group_lem c g t =
     let e = group_event c g in
     both _ _ (marked_expanded e (conditions_of c.edition).has_marks (list_any (list_any is_at_expanded) (group_moves d g)))
     (every_map _ (end_product d e) is_sound_product (end_sound d e) g.products (and_right _ _ t))
+
+-- 2023 has marks, so that the marks of any edition are sound in it
+may_mark : (m x h : Bool) → not m || (x && h) ≡ true → not m || (x && true) ≡ true
+may_mark true true true t = refl
+may_mark true true false t = cc
+may_mark true false h t = t
+may_mark false x h t = refl
+
+pub convert_group : (e : ℕ) (g : Group) → is_sound_group e g ≡ true → is_sound_group 2023 g ≡ true
+unfolding is_sound_group conditions_of
+convert_group e g t =
+    both _ _ (may_mark g.mark (is_expanded g.level) (conditions_of e).has_marks (and_left _ _ t)) (and_right _ _ t)

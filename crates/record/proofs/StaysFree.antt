@@ -16,7 +16,7 @@ use Rattle.record.specs.Founding.{Start, founding_refusal, founded}
 use Rattle.record.specs.Opening.{is_true_day, date_number, is_not_later, is_same_month, is_left_not_smaller, opening_tests}
 use Rattle.record.specs.Check.{judged}
 use Rattle.record.specs.Sound.{is_sound_date, is_sound}
-use Rattle.record.specs.Record.{Change, opening, sheet, end, check, Call, change, question, checked, accepted, tests, refusal, next_common, next, next_by, respond, ask, state_after}
+use Rattle.record.specs.Record.{Change, opening, sheet, end, convert, check, Call, change, question, checked, accepted, tests, refusal, next_common, next, next_by, respond, ask, state_after}
 use Rattle.record.specs.Theorems.{after, check_after}
 use Rattle.record.proofs.TrueDays.{valid, day_small}
 use Rattle.record.proofs.Cleared.{Clear, accepted_clear}
@@ -68,6 +68,7 @@ module _ (month : ℕ) where
       opened_spot r.common.opened r.common.is_open d (facts r s).date (not-false _ k.1.0) k.1.1.0 k.1.1.1.0 e
   accepted_spot r (sheet p ms ss) s k e = e
   accepted_spot r end s k e = e
+  accepted_spot r convert s k e = e
 
   respond_spot : (r : Record) (c : Call) → is_sound r ≡ true → spot_since r.common.opened month ≡ true
       → spot_since (respond r c).state.common.opened month ≡ true

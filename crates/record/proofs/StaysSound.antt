@@ -19,7 +19,8 @@ use Rattle.record.specs.Opening.{opening_tests}
 use Rattle.record.specs.Sheet.{sheet_tests}
 use Rattle.record.specs.Check.{terms_tests, order_tests}
 use Rattle.record.specs.Sound.{is_sound_group, is_sound_date, is_sound}
-use Rattle.record.specs.Record.{opening, sheet, end, check, Call, change, question, tests, refusal, answer, next_by, respond, state_after, answers}
+use Rattle.record.specs.Conversion.{conversion_tests}
+use Rattle.record.specs.Record.{opening, sheet, end, convert, check, Call, change, question, tests, refusal, answer, next_by, respond, state_after, answers}
 use Rattle.record.specs.Theorems.{is_refusal}
 use Rattle.record.proofs.Cleared.{cleared, accepted_clear, not_returned}
 use Rattle.record.proofs.SoundGroups.{found_group_lem}
@@ -54,10 +55,11 @@ always_sound r (c ∷ cs) t = always_sound (respond r c).state cs (respond_sound
 
 -- no test after the first returns 1
 later_tests : (r : Record) (c : Call) → every (λ t. not (eqb t.number unsound)) (tests r c) ≡ true
-unfolding ◌and◌ every tests opening_tests sheet_tests terms_tests order_tests
+unfolding ◌and◌ every tests opening_tests sheet_tests conversion_tests terms_tests order_tests
 later_tests r (change (opening d)) = refl
 later_tests r (change (sheet p ms ss)) = refl
 later_tests r (change end) = refl
+later_tests r (change convert) = refl
 later_tests r (question (check p size month price)) = refl
 
 respond-not-unsound : (r : Record) (c : Call) → is_sound r ≡ true → not (is_refusal unsound (respond r c).answer) ≡ true

@@ -4,15 +4,14 @@ use mathlib.Core.Path.{◌≡◌, refl}
 use mathlib.Core.Bool.{false}
 use mathlib.Core.List.{List, [], ◌∷◌, ◌++◌, map}
 use Rattle.std.specs.Prelude.{Option, Some}
-use lib.ListN.{replicate}
 use Rattle.grain.specs.declared.check.Verdict.TheVariants.{Within, Below, Above}
 use Rattle.record.specs.State.{Day, Sheet, Level, initial, expanded, Record, group_of}
 use Rattle.record.specs.Founding.{Start, founded}
 use Rattle.record.specs.End.{Event, Quiet, Triggered, Held, Reverted, Raised}
-use Rattle.record.specs.Record.{Call, opened, filed, ended, checked, refused, accepted}
+use Rattle.record.specs.Record.{Call, filed, ended, checked, refused, accepted}
 use Rattle.record.specs.History.{sheets_of, products_of}
 use Rattle.record.specs.Theorems.{history_of}
-use Rattle.record.proofs.Examples.{corn, soybeans, oil, meal, chicago_wheat, kc_wheat, oats, rice, wheats, sep24, dec24, jul25, june3, june4, june5, june6, opens, ends, checks, one_contract, unmoved, full_day, state_of, answers_after, span, limits, lead, Outcome, outcome, in_one_run}
+use Rattle.record.proofs.Examples.{corn, soybeans, oil, meal, chicago_wheat, kc_wheat, oats, rice, wheats, sep24, dec24, jul25, june3, june4, june5, june6, opens, ends, checks, one_contract, unmoved, full_day, state_of, opened_anew, answers_after, span, limits, lead, Outcome, outcome, in_one_run}
 
 -- Chicago Wheat at 240 and 360, KC Wheat at 320 and 480
 abbrev kc_at320 : Start
@@ -59,7 +58,7 @@ pub each_to_its_own :
     ∷ one_contract chicago_wheat jul25 4362
     ∷ one_contract chicago_wheat jul25 4360
     ∷ [])
-    ≡ accepted (opened (replicate 8 false))
+    ≡ opened_anew
     ∷ accepted (checked (Within (span 3640 4360)))
     ∷ accepted (checked (Above (span 3640 4360)))
     ∷ accepted (checked (Within (span 3640 4360)))

@@ -10,6 +10,7 @@ pub mod Window
 pub mod End
 pub mod Check
 pub mod Sound
+pub mod Conversion
 pub mod Record
 pub mod History
 pub mod Replay

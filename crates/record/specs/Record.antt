@@ -6,12 +6,13 @@ use Rattle.grain.specs.Refusals.{no_such_product}
 use Rattle.grain.specs.declared.check.Verdict.{Verdict}
 use Rattle.record.specs.Choices.{concat_map}
 use Rattle.record.specs.Refusals.{Test, when, first, unsound, wrong_phase, sheet_outstanding}
-use Rattle.record.specs.State.{Day, Group, Common, Record, with_opened, with_is_open, group_of, group_at}
+use Rattle.record.specs.State.{Day, Group, Common, Record, with_edition, with_opened, with_is_open, group_of, group_at}
 use Rattle.record.specs.Opening.{opening_tests, is_renewed, open_group}
 use Rattle.record.specs.Sheet.{contracts, sheet_tests, file_group}
 use Rattle.record.specs.End.{Event, group_event, end_group}
 use Rattle.record.specs.Check.{Terms, terms_tests, terms_of, order_tests, judged}
 use Rattle.record.specs.Sound.{is_sound}
+use Rattle.record.specs.Conversion.{conversion_tests}
 
 -- What changes the book.
 pub data Change : Type 0 where
@@ -19,6 +20,7 @@ pub data Change : Type 0 where
   -- product, months, settlements
   sheet : ℕ → List ℕ → List ℕ → Change
   end : Change
+  convert : Change
 
 -- What only asks.
 pub data Question : Type 0 where
@@ -36,6 +38,7 @@ pub data Accepted : Type 0 where
   filed : Accepted
   -- for each group, its event
   ended : List Event → Accepted
+  converted : Accepted
   checked : Verdict → Accepted
 
 pub data Answer : Type 0 where
@@ -58,6 +61,7 @@ tests r (change (sheet p ms ss)) =
     ∷ sheet_tests r.common (group_at r (group_of p)) p ms ss
 tests r (change end) =
     when (not r.common.is_open) wrong_phase ∷ when (list_any is_outstanding r.groups) sheet_outstanding ∷ []
+tests r (change convert) = conversion_tests r
 tests r (question (check p size month price)) = terms_tests r.common p size ++ order_tests (terms_in r p size) month price
 
 -- the first number that refuses, 1 before the tests; judged by the Record's own contents
@@ -77,6 +81,7 @@ unfoldable pub answer : Record → Call → Accepted
 answer r (change (opening d)) = opened (concat_map (λ g. map (is_renewed r.common d) g.products) r.groups)
 answer r (change (sheet p ms ss)) = filed
 answer r (change end) = ended (map (group_event r.common) r.groups)
+answer r (change convert) = converted
 answer r (question (check p size month price)) = checked (judged (terms_in r p size) month price)
 
 -- what an accepted change leaves, of what is common and of each group
@@ -84,11 +89,13 @@ unfoldable pub next_common : Common → Change → Common
 next_common c (opening d) = with_opened (Some d) (with_is_open true c)
 next_common c (sheet p ms ss) = c
 next_common c end = with_is_open false c
+next_common c convert = with_edition 2023 c
 
 unfoldable pub next_group : Common → Change → Group → Group
 next_group c (opening d) g = open_group c d g
 next_group c (sheet p ms ss) g = file_group p (contracts ms ss) g
 next_group c end g = end_group c g
+next_group c convert g = g
 
 unfoldable pub next : Record → Change → Record
 next r c = record { common = next_common r.common c; groups = map (next_group r.common c) r.groups }

@@ -1,6 +1,6 @@
 -- The first number in a call's order that refuses it. The numbers themselves are grain's.
 use Rattle.std.specs.Prelude.{ℕ, Bool, cond, List, [], ◌∷◌, Option, Some, None}
-pub use Rattle.grain.specs.Refusals.{unsound, wrong_phase, not_later, bad_month, contract_absent, beyond_limit, already_in, sheet_outstanding, not_listed, left_not_smaller, unknown_edition}
+pub use Rattle.grain.specs.Refusals.{unsound, wrong_phase, not_later, bad_month, contract_absent, beyond_limit, already_in, sheet_outstanding, not_listed, left_not_smaller, unknown_edition, group_expanded}
 
 -- A test with the number that is returned where it applies.
 pub record Test : Type 0 where

@@ -1,9 +1,9 @@
--- The Record's contents from a history alone: each day is opened, gets its sheets at once, and is ended.
+-- The Record's contents from a history alone: each day is opened, gets its sheets at once, and is ended, under the edition of its time.
 use Rattle.std.specs.Prelude.{Bool, true, false, not, List, [], ◌∷◌, map, Option, Some, None}
-use Rattle.record.specs.State.{Sheet, Product, Group, Common, Record, with_opened, with_is_open, with_products, with_today}
+use Rattle.record.specs.State.{Sheet, Product, Group, Common, Record, with_edition, with_opened, with_is_open, with_products, with_today}
 use Rattle.record.specs.Opening.{open_group}
 use Rattle.record.specs.End.{end_group}
-use Rattle.record.specs.History.{ProductSheet, Entry, a_day, sheet_among}
+use Rattle.record.specs.History.{ProductSheet, Entry, a_day, a_conversion, sheet_among}
 
 -- a sheet that came, or else what was there
 abbrev pub over : Option Sheet → Option Sheet → Option Sheet
@@ -24,12 +24,15 @@ ended_if false c g = g
 -- what an entry makes of what is common before it
 abbrev pub common_by : Entry → Common → Common
 common_by (a_day k) c = with_opened (Some k.day) (with_is_open (not k.is_ended) c)
+-- no day is open at a conversion, nor after it
+common_by a_conversion c = with_edition 2023 (with_is_open false c)
 
 -- what an entry makes of a group; c is common before it
 abbrev pub group_by : Entry → Common → Group → Group
 group_by (a_day k) c g =
     ended_if k.is_ended (with_opened (Some k.day) (with_is_open true c))
     (group_with k.sheets (open_group c k.day g))
+group_by a_conversion c g = g
 
 -- what is common after a history that began with c
 abbrev pub common_after : List Entry → Common → Common

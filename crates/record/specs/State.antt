@@ -48,6 +48,9 @@ pub record Record : Type 0 where
   pub groups : List Group
 
 -- ---- the same with one part changed
+abbrev pub with_edition : ℕ → Common → Common
+with_edition e c = record { edition = e; opened = c.opened; is_open = c.is_open }
+
 abbrev pub with_opened : Option Day → Common → Common
 with_opened o c = record { edition = c.edition; opened = o; is_open = c.is_open }
 

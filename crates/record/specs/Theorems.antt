@@ -1,5 +1,5 @@
 -- What is shown of the Record, for every list of calls from a founded one. proofs/Proved.antt has the proofs.
-use Rattle.std.specs.Prelude.{ℕ, ◌<◌, ◌≤◌, ◌≡◌, Bool, true, false, not, ◌&&◌, List, [], ◌∷◌, ◌++◌, leb, eqb, Some, None}
+use Rattle.std.specs.Prelude.{ℕ, ◌<◌, ◌≤◌, ◌≡◌, Bool, true, false, not, ◌&&◌, cond, List, [], ◌∷◌, ◌++◌, leb, eqb, Some, None}
 use Rattle.std.specs.List.{list_any}
 use Rattle.grain.specs.Lists.{every, is_in, distance}
 use Rattle.grain.specs.Check.{span_in, is_within}
@@ -12,8 +12,8 @@ use Rattle.record.specs.Founding.{Start, founding_refusal, founded}
 use Rattle.record.specs.End.{is_raised}
 use Rattle.record.specs.Check.{listed}
 use Rattle.record.specs.Sound.{is_sound}
-use Rattle.record.specs.Record.{check, Call, opened, filed, ended, checked, Answer, refused, accepted, ask, state_after, answers}
-use Rattle.record.specs.History.{Entry, kept, products_of, SameFor}
+use Rattle.record.specs.Record.{check, Call, opened, filed, ended, converted, checked, Answer, refused, accepted, ask, state_after, answers}
+use Rattle.record.specs.History.{Entry, a_day, a_conversion, kept, products_of, SameFor}
 use Rattle.record.specs.Replay.{replay}
 
 -- the Record after a list of calls
@@ -37,7 +37,12 @@ has_raised (refused n) = false
 has_raised (accepted (opened l)) = false
 has_raised (accepted filed) = false
 has_raised (accepted (ended events)) = list_any is_raised events
+has_raised (accepted converted) = false
 has_raised (accepted (checked v)) = false
+
+abbrev pub is_conversion : Entry → Bool
+is_conversion (a_day k) = false
+is_conversion a_conversion = true
 
 -- ---- one level for a group
 
@@ -91,10 +96,12 @@ pub record Theorems : Type 0 where
       → every (λ a. not (is_refusal unsound a)) (answers (founded s) cs) ≡ true
   -- the state after a list is the replay of its history
   pub replayed : (s : Start) (cs : List Call) → after s cs ≡ replay (history_of s cs) (founded s)
-  -- a book is of the edition that it was founded under, and under 2014 no group is raised
-  pub keeps_edition : (s : Start) (cs : List Call) → (after s cs).common.edition ≡ s.edition
+  -- a book is of the edition that it was founded under until a conversion is accepted, and then of 2023
+  pub keeps_edition :
+      (s : Start) (cs : List Call) → (after s cs).common.edition ≡ cond (list_any is_conversion (history_of s cs)) 2023 s.edition
+  -- while it is of 2014 no group is raised
   pub never_raised :
-      (s : Start) → founding_refusal s ≡ None → s.edition ≡ 2014 → (cs : List Call)
+      (s : Start) → founding_refusal s ≡ None → (cs : List Call) → (after s cs).common.edition ≡ 2014
       → every (λ a. not (has_raised a)) (answers (founded s) cs) ≡ true
   -- the products of a group stand on one level
   pub together : (s : Start) (cs : List Call) → Together (after s cs)
@@ -112,7 +119,8 @@ pub record Theorems : Type 0 where
   pub stays_free :
       (s : Start) → founding_refusal s ≡ None → (cs ds : List Call) (p q i j month x y : ℕ) (v : Verdict)
       → check_after s cs p i month x ≡ accepted (checked Free) → check_after s (cs ++ ds) q j month y ≡ accepted (checked v) → v ≡ Free
-  -- two lists with the same openings and ends accepted and the same sheets of one group on each day: the same day is open after both, or none
+  -- two lists with the same openings, ends and conversions accepted and the same sheets of one group on each day: the same day is open after
+  -- both, or none, and the edition is the same
   pub same_day :
       (s : Start) (g : ℕ) (cs ds : List Call) → SameFor g (history_of s cs) (history_of s ds)
       → (after s cs).common ≡ (after s ds).common

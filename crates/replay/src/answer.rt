@@ -13,6 +13,7 @@ pub enum Answer<'a> {
     Opened([bool; PRODUCT_COUNT]),
     Filed,
     Ended([Event; GROUP_COUNT]),
+    Converted,
     Judged(Verdict),
     Book(&'a Book),
 }
@@ -54,6 +55,7 @@ impl Display for Answer<'_> {
                 write!(f, "ended ")?;
                 f.write_joined(events.iter().map(Shown), " ")
             }
+            Answer::Converted => write!(f, "converted"),
             Answer::Judged(verdict) => write!(f, "{}", Shown(verdict)),
             Answer::Book(book) => write!(f, "{}", Shown(*book)),
         }

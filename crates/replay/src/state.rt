@@ -30,6 +30,10 @@ impl State {
                 Ok(Answer::Filed)
             }
             Call::End => Ok(Answer::Ended(ending::end(self.book_mut()?)?)),
+            Call::Convert => {
+                converting::convert(self.book_mut()?)?;
+                Ok(Answer::Converted)
+            }
             Call::Check(c) => {
                 let verdict = checking::check(self.book()?, c.product, c.size, c.month, c.price)?;
                 Ok(Answer::Judged(verdict))

@@ -1,6 +1,6 @@
 -- What a check on a book through a tally promises, whatever the book, the tally, product, size, month and price.
 use Rattle.std.specs.Prelude.{ℕ, ◌≡◌, cond}
-use Rattle.record.specs.Record.{check, opened, filed, ended, checked, Answer, refused, accepted, ask}
+use Rattle.record.specs.Record.{check, opened, filed, ended, converted, checked, Answer, refused, accepted, ask}
 use Rattle.book.specs.declared.Book.{Book}
 use Rattle.book.specs.Book.{view}
 use Rattle.tally.specs.declared.Tally.{Tally}
@@ -15,6 +15,7 @@ kind_of (refused n) = Refused
 kind_of (accepted (opened l)) = Refused
 kind_of (accepted filed) = Refused
 kind_of (accepted (ended l)) = Refused
+kind_of (accepted converted) = Refused
 
 -- what the Record of the book answers
 abbrev pub book_answer : Book → ℕ → ℕ → ℕ → ℕ → Answer
