@@ -12,6 +12,7 @@ uint32_t oracle_open(botskhela_book *book, uint32_t year, uint32_t month, uint32
 uint32_t oracle_sheet(botskhela_book *book, uint32_t product, const uint32_t *months,
                       size_t n_months, const uint32_t *settlements, size_t n_settlements);
 uint32_t oracle_end(botskhela_book *book);
+uint32_t oracle_convert(botskhela_book *book);
 uint32_t oracle_check(const botskhela_book *book, uint32_t product, uint32_t size, uint32_t month,
                       uint32_t price);
 botskhela_span oracle_check_span(const botskhela_book *book, uint32_t product, uint32_t size,

@@ -58,6 +58,7 @@ extern "C" {
         n_settlements: usize,
     ) -> u32;
     fn botskhela_end(book: *mut Image) -> u32;
+    fn botskhela_convert(book: *mut Image) -> u32;
     fn botskhela_check(book: *const Image, product: u32, size: u32, month: u32, price: u32) -> u32;
     fn botskhela_check_span(
         book: *const Image,
@@ -106,6 +107,7 @@ impl Archive {
             }
             Call::Sheet(sheet) => self.sheet(book, sheet),
             Call::End => unsafe { botskhela_end(book) },
+            Call::Convert => unsafe { botskhela_convert(book) },
             Call::Check(_) | Call::Bare(_) | Call::Book => panic!("{call:?} changes no book"),
         }
     }

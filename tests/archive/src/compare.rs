@@ -110,6 +110,7 @@ fn by_oracle(image: &mut Image, call: &Call) -> u32 {
         Call::Open(numbers) => image.open(*numbers),
         Call::Sheet(sheet) => image.sheet(sheet.product, &sheet.months, &sheet.settlements),
         Call::End => image.end(),
+        Call::Convert => image.convert(),
         Call::Check(_) | Call::Bare(_) | Call::Book => panic!("{call:?} changes no book"),
     }
 }

@@ -200,6 +200,7 @@ fn name_of(call: &Call) -> &'static str {
         Call::Open(_) => "open",
         Call::Sheet(_) => "sheet",
         Call::End => "end",
+        Call::Convert => "convert",
         Call::Check(_) => "check",
         Call::Bare(_) | Call::Book => "no call on a book",
     }

@@ -2,7 +2,7 @@
 
 use oracle::bare::Order;
 use oracle::book::Book;
-use oracle::history::answer::{self, answer_line, FILED, FOUNDED, NOT_A_CALL, NO_BOOK};
+use oracle::history::answer::{self, answer_line, CONVERTED, FILED, FOUNDED, NOT_A_CALL, NO_BOOK};
 use oracle::history::call::{self, Call};
 use oracle::history::show;
 use oracle::image::calls::ACCEPTED;
@@ -134,6 +134,7 @@ impl Through<'_> {
             Call::Open(_) => image.new_limits().map(answer::opened),
             Call::Sheet(_) => Some(FILED.to_string()),
             Call::End => image.last_events().map(answer::ended),
+            Call::Convert => Some(CONVERTED.to_string()),
             Call::Check(_) | Call::Bare(_) | Call::Book => {
                 panic!("{call:?} returns no such number")
             }

@@ -4,7 +4,7 @@
 pub enum Refusal {
     /// The book is unsound.
     Unsound = 1,
-    /// Opening with a day open, or sheet, end or check with none.
+    /// Opening or conversion with a day open, or sheet, end or check with none.
     Day = 2,
     /// A date is false, the dates of a file do not strictly ascend, or left is too large.
     Date = 3,
@@ -34,6 +34,8 @@ pub enum Refusal {
     NotSmaller = 16,
     /// There is no such edition.
     Edition = 17,
+    /// A book under the edition of 2014 has an expanded group, and cannot be converted.
+    Expanded = 18,
 }
 
 impl Refusal {

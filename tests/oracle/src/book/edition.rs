@@ -19,6 +19,13 @@ impl Edition {
         }
     }
 
+    pub fn year(self) -> u32 {
+        match self {
+            Edition::Of2014 => 2014,
+            Edition::Of2023 => 2023,
+        }
+    }
+
     /// Whether a group can be marked, and so raised.
     pub fn has_marks(self) -> bool {
         self == Edition::Of2023
@@ -34,6 +41,10 @@ mod tests {
         assert_eq!(
             EDITIONS.map(Edition::of),
             [Some(Edition::Of2014), Some(Edition::Of2023)]
+        );
+        assert_eq!(
+            [Edition::Of2014, Edition::Of2023].map(Edition::year),
+            EDITIONS
         );
         for year in [0, 1, 2013, 2015, 2022, 2024, 2014 << 16, u32::MAX] {
             assert_eq!(Edition::of(year), None, "{year}");

@@ -1,6 +1,7 @@
-//! The daily price limit book: founding, opening, sheet, end and check.
+//! The daily price limit book: founding, opening, sheet, end, conversion and check.
 
 pub mod check;
+pub mod convert;
 pub mod edition;
 pub mod edition_2014;
 pub mod edition_2023;
@@ -15,6 +16,8 @@ pub mod window;
 
 #[cfg(test)]
 pub mod by_hand;
+#[cfg(test)]
+mod convert_tests;
 #[cfg(test)]
 mod edition_2014_tests;
 #[cfg(test)]
@@ -71,7 +74,7 @@ pub struct Limits {
 /// Every field can hold damage, so that soundness is a question.
 #[derive(Clone, Debug, PartialEq, Eq)]
 pub struct Book {
-    /// The year of the edition under which the book was founded.
+    /// The year of the edition: the founding's, and 2023 after a conversion.
     pub edition: u32,
     pub is_open: bool,
     /// Year, month and day of the last opened day.

@@ -13,6 +13,7 @@ pub const NOT_A_CALL: &str = "not a call";
 pub const NO_BOOK: &str = "no book";
 pub const FOUNDED: &str = "founded";
 pub const FILED: &str = "filed";
+pub const CONVERTED: &str = "converted";
 
 /// Answers a line on a book, if one was founded; None where the line is passed over.
 pub fn answer_line(book: &mut Option<Book>, line: &[u8]) -> Option<String> {
@@ -34,6 +35,7 @@ pub fn answer(book: &mut Option<Book>, call: &Call) -> String {
         }),
         Call::Sheet(sheet) => on(book, |book| file(book, sheet)),
         Call::End => on(book, |book| book.end().map(ended)),
+        Call::Convert => on(book, |book| book.convert().map(|()| CONVERTED.to_string())),
         Call::Check([product, size, month, price]) => on(book, |book| {
             book.check(*product, *size, *month, *price).map(verdict)
         }),

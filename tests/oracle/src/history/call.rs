@@ -7,6 +7,7 @@ pub enum Call {
     Open([u32; 4]),
     Sheet(SheetCall),
     End,
+    Convert,
     /// Product, size, month and price.
     Check([u32; 4]),
     /// Product, size, settlement, amount, spot and price.
@@ -43,6 +44,7 @@ pub fn parse(line: &[u8]) -> Option<Call> {
         b"open" => Some(Call::Open(numbers(&arguments)?)),
         b"sheet" => Some(Call::Sheet(sheet(&arguments)?)),
         b"end" => arguments.is_empty().then_some(Call::End),
+        b"convert" => arguments.is_empty().then_some(Call::Convert),
         b"check" => Some(Call::Check(numbers(&arguments)?)),
         b"bare" => Some(Call::Bare(numbers(&arguments)?)),
         b"book" => arguments.is_empty().then_some(Call::Book),
@@ -118,6 +120,7 @@ mod tests {
             Some(Call::Open([2024, 6, 27, 1]))
         );
         assert_eq!(parse(b"end"), Some(Call::End));
+        assert_eq!(parse(b"convert"), Some(Call::Convert));
         assert_eq!(
             parse(b"check 0 1 24294 6000"),
             Some(Call::Check([0, 1, 24294, 6000]))
@@ -167,44 +170,50 @@ mod tests {
         }
     }
 
+    const NO_CALLS: [&str; 38] = [
+        " end",
+        "end ",
+        "end\r",
+        "end\t",
+        "End",
+        "end 1",
+        "convert 1",
+        "convert 2023",
+        "convert ",
+        "Convert",
+        "converted",
+        "book 1",
+        "books",
+        " ",
+        "\r",
+        "open 2024 6 27",
+        "open 2024 6 27 1 1",
+        "open  2024 6 27 1",
+        "open 2024 6 27 1 ",
+        "open 2024 6 27 4294967296",
+        "found",
+        "found 1 2 3 4 5 6 7 8",
+        "found 2023 1 2 3 4 5 6 7 8 9",
+        "found 4294967296 1 2 3 4 5 6 7 8",
+        "check 0 0 1",
+        "bare 0 0 1 1 0",
+        "sheet",
+        "sheet 0",
+        "sheet 0 months",
+        "sheet 0 months 1 settlements 1 settlements 1",
+        "sheet months 1 settlements 1",
+        "sheet 0 settlements 1 months 1",
+        " # no comment",
+        "sheet 0 months 1 months 1 settlements 1",
+        "sheet 0 1 settlements 1",
+        "sheet 0 months  settlements",
+        "sheet 0 months settlements ",
+        "replay",
+    ];
+
     #[test]
     fn lines_that_are_no_call() {
-        let lines = [
-            " end",
-            "end ",
-            "end\r",
-            "end\t",
-            "End",
-            "end 1",
-            "book 1",
-            "books",
-            " ",
-            "\r",
-            "open 2024 6 27",
-            "open 2024 6 27 1 1",
-            "open  2024 6 27 1",
-            "open 2024 6 27 1 ",
-            "open 2024 6 27 4294967296",
-            "found",
-            "found 1 2 3 4 5 6 7 8",
-            "found 2023 1 2 3 4 5 6 7 8 9",
-            "found 4294967296 1 2 3 4 5 6 7 8",
-            "check 0 0 1",
-            "bare 0 0 1 1 0",
-            "sheet",
-            "sheet 0",
-            "sheet 0 months",
-            "sheet 0 months 1 settlements 1 settlements 1",
-            "sheet months 1 settlements 1",
-            "sheet 0 settlements 1 months 1",
-            " # no comment",
-            "sheet 0 months 1 months 1 settlements 1",
-            "sheet 0 1 settlements 1",
-            "sheet 0 months  settlements",
-            "sheet 0 months settlements ",
-            "replay",
-        ];
-        for line in lines {
+        for line in NO_CALLS {
             assert_eq!(parse(line.as_bytes()), None, "{line:?}");
         }
         assert_eq!(parse(b"\xff\xfe"), None);

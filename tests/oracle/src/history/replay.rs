@@ -49,9 +49,9 @@ mod tests {
 
     #[test]
     fn before_a_founding() {
-        let history = "end\nopen 2024 6 27 1\nsheet 0 months settlements\ncheck 9 9 9 9\nbook\n\
+        let history = "end\nconvert\nopen 2024 6 27 1\nsheet 0 months settlements\ncheck 9 9 9 9\nbook\n\
                        bare 0 0 6000 200 0 6200\nend 1\nfound 2023 1 2 3 4 5 6 7 8\nfound 1 2 3 4 5 6 7 8 9\nend";
-        let expected = "no book\nno book\nno book\nno book\nno book\nwithin:5800:6200\n\
+        let expected = "no book\nno book\nno book\nno book\nno book\nno book\nwithin:5800:6200\n\
                         not a call\nrefused 13\nrefused 17\nno book\n";
         assert_eq!(answers_to(history), expected);
     }
@@ -102,6 +102,66 @@ mod tests {
                 "founded"
             ]
         );
+    }
+
+    #[test]
+    fn a_conversion_changes_the_edition_only_where_it_is_accepted() {
+        let history = format!(
+            "{FOUND_2014}book\nopen 2024 6 27 1\nconvert\nconvert 1\nbook\n{FOUND_2014}convert\nbook\nconvert\n\
+             book\nopen 2024 6 27 1\nconvert\nbook\n{FOUND_2014}book\n"
+        );
+        let answers = answers_to(&history);
+        assert_eq!(
+            editions_in(&answers),
+            ["2014", "2014", "2023", "2023", "2023", "2014"]
+        );
+        let others = answers.lines().filter(|line| !line.starts_with("book"));
+        let opened = "opened 0 0 0 0 0 0 0 0";
+        assert_eq!(
+            others.collect::<Vec<_>>(),
+            [
+                "founded",
+                opened,
+                "refused 2",
+                "not a call",
+                "founded",
+                "converted",
+                "converted",
+                opened,
+                "refused 2",
+                "founded"
+            ]
+        );
+    }
+
+    /// The opening and the sheets of a day in June 2024, with July and September Corn.
+    fn day_with(day: u32, corn: &str) -> String {
+        let others =
+            (1..8).map(|product| format!("sheet {product} months 24294 settlements 6000\n"));
+        format!(
+            "open 2024 6 {day} {}\nsheet 0 months 24294 24296 settlements {corn}\n{}",
+            30 - day,
+            others.collect::<String>()
+        )
+    }
+
+    /// Two contracts at I expand Corn, and on the third day it reverts.
+    #[test]
+    fn a_conversion_waits_until_every_group_is_at_the_initial_level() {
+        let history = format!(
+            "{FOUND_2014}{}end\n{}convert\nend\nconvert\nbook\n{}convert\nend\nconvert\nbook\n",
+            day_with(3, "6000 6000"),
+            day_with(4, "6200 6200"),
+            day_with(5, "6300 6200"),
+        );
+        let answers = answers_to(&history);
+        let is_conversion = |line: &&str| line.starts_with("refused") || *line == "converted";
+        let conversions: Vec<&str> = answers.lines().filter(is_conversion).collect();
+        assert_eq!(
+            conversions,
+            ["refused 2", "refused 18", "refused 2", "converted"]
+        );
+        assert_eq!(editions_in(&answers), ["2014", "2023"]);
     }
 
     #[test]

@@ -72,6 +72,13 @@ pub unsafe extern "C" fn oracle_end(book: *mut Image) -> u32 {
 }
 
 /// # Safety
+/// As botskhela_convert.
+#[no_mangle]
+pub unsafe extern "C" fn oracle_convert(book: *mut Image) -> u32 {
+    unsafe { (*book).convert() }
+}
+
+/// # Safety
 /// As botskhela_check.
 #[no_mangle]
 pub unsafe extern "C" fn oracle_check(

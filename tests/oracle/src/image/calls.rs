@@ -28,6 +28,12 @@ impl Image {
         number(self.change(Book::end, Image::put_events))
     }
 
+    /// Writes the edition alone: no other word changes, not even one that means nothing.
+    pub fn convert(&mut self) -> u32 {
+        let converted = self.after(Book::convert);
+        number(converted.map(|(book, ())| self.edition = book.edition))
+    }
+
     pub fn check(&self, order: [u32; 4]) -> u32 {
         self.check_span(order).answer
     }

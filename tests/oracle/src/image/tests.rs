@@ -23,6 +23,7 @@ fn assert_unsound(image: &Image, what: &str) {
     assert_eq!(after.open([2024, 6, 28, 0]), 1, "{what}");
     assert_eq!(after.sheet(9, &[], &[]), 1, "{what}");
     assert_eq!(after.end(), 1, "{what}");
+    assert_eq!(after.convert(), 1, "{what}");
     assert_eq!(span(&after, [9, 9, 0, 0]), [1, 0, 0], "{what}");
     assert_eq!(after, *image, "{what}");
 }
@@ -189,6 +190,7 @@ fn assert_founds_afresh(old: Image) {
     let mut tally = Tally::default();
     assert_eq!(after.open([2024, 6, 4, 26]), 1);
     assert_eq!(after.sheet(1, &[JULY], &[6_000]), 1);
+    assert_eq!(after.convert(), 1);
     assert_eq!(span(&after, [0, 0, JULY, 6_000]), [1, 0, 0]);
     assert_eq!(after.tallied_check(&mut tally, [0, 0, JULY, 6_000]), 1);
     assert_eq!((tally.asked, tally.refused), (1, 1));
@@ -299,6 +301,69 @@ fn an_end_sets_events_alone_and_moves_the_sheets() {
     assert_eq!(image.last, Image::of(&trial.book).today);
     assert!(image.today.iter().all(|sheet| sheet.count == 0));
     assert_eq!((image.is_open, image.day), (0, 4));
+}
+
+/// An image with anything in the places from a count on, and in what the last calls answered.
+fn scattered(book: &Book) -> Image {
+    let mut image = Image::of(book);
+    image.renewed = KEPT;
+    image.events[1].kind = 77;
+    let WindowWords {
+        counts,
+        settlements,
+    } = &mut image.windows;
+    for (count, places) in counts.iter().zip(settlements) {
+        unused(places, *count).fill(u32::MAX);
+    }
+    let anything = ContractWords {
+        month: 5,
+        settlement: 3,
+    };
+    for sheet in image.today.iter_mut().chain(&mut image.last) {
+        unused(&mut sheet.contracts, sheet.count).fill(anything);
+    }
+    image
+}
+
+#[test]
+fn a_conversion_writes_the_edition_alone() {
+    for edition in EDITIONS {
+        let [fresh, ended, ..] = books(edition);
+        for book in [fresh, ended] {
+            let image = scattered(&book);
+            let carried = Image {
+                edition: 2023,
+                ..image
+            };
+            let mut after = image;
+            assert_eq!((after.convert(), after), (0, carried));
+            assert_eq!((after.convert(), after), (0, carried));
+        }
+    }
+}
+
+#[test]
+fn a_refused_conversion_leaves_every_word() {
+    let [_, ended, some_in, all_in] = books(2014).map(|book| scattered(&book));
+    let expanded = |mut image: Image| {
+        image.standings[3].expanded = 1;
+        image
+    };
+    for (image, number) in [
+        (some_in, 2),
+        (all_in, 2),
+        (expanded(some_in), 2),
+        (expanded(ended), 18),
+    ] {
+        let mut after = image;
+        assert_eq!((after.convert(), after), (number, image));
+    }
+    let expanded_2023 = Image {
+        edition: 2023,
+        ..expanded(ended)
+    };
+    let mut after = expanded_2023;
+    assert_eq!((after.convert(), after), (0, expanded_2023));
 }
 
 #[test]

@@ -22,6 +22,7 @@ pub fn line_with(call: &Call, mut number: impl FnMut(u32) -> String) -> String {
             words.call(" settlements", &sheet.settlements);
         }
         Call::End => words.call("end", &[]),
+        Call::Convert => words.call("convert", &[]),
         Call::Check(numbers) => words.call("check", numbers),
         Call::Bare(numbers) => words.call("bare", numbers),
         Call::Book => words.call("book", &[]),
@@ -58,6 +59,7 @@ mod tests {
             "sheet 0 months 24294 24296 settlements 6000",
             "sheet 0 months settlements",
             "end",
+            "convert",
             "check 0 1 24294 6000",
             "bare 0 0 6000 200 0 6200",
             "book",

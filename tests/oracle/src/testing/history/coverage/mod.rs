@@ -103,6 +103,7 @@ impl Coverage {
             (Call::Open(numbers), Some(seen)) => openings::observe(self, numbers, &seen),
             (Call::Sheet(sheet), Some(seen)) => sheets::observe(self, sheet, &seen),
             (Call::End, Some(seen)) => ends::observe(self, &seen),
+            (Call::Convert, Some(_)) => {}
             (Call::Check(numbers), Some(seen)) => checks::observe(self, numbers, &seen),
             (Call::Book, Some(seen)) => self.observe_book(seen.before),
         }
