@@ -4,11 +4,12 @@ use super::scenario;
 use crate::book::edition::EDITIONS;
 use crate::testing::random::Random;
 
-const WORDS: [&str; 28] = [
+const WORDS: [&str; 29] = [
     "found",
     "open",
     "sheet",
     "end",
+    "convert",
     "check",
     "bare",
     "book",

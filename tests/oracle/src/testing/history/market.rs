@@ -19,7 +19,7 @@ pub struct Market {
     pub driver: Option<usize>,
     /// One in so many days has a mood; on the others contracts hardly move.
     pub calm: usize,
-    /// Near a change of season every group is led; else it has its moods.
+    /// Near a change of season, and before a conversion, every group is led; else it has its moods.
     pub phase: Phase,
 }
 

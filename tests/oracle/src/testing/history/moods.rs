@@ -126,7 +126,7 @@ pub fn on(random: &mut Random, edition: Edition, level: Level) -> Mood {
     }
 }
 
-/// Expanded, marked or not, into another season, and there on.
+/// Expanded, marked or not, into another season, and there on; to the initial level before a conversion.
 pub fn led(random: &mut Random, phase: Phase, edition: Edition, level: Level) -> Option<Mood> {
     let held = match edition {
         Edition::Of2014 => BY_E,
@@ -134,6 +134,7 @@ pub fn led(random: &mut Random, phase: Phase, edition: Edition, level: Level) ->
     };
     match (phase, level) {
         (Phase::Middle, _) => None,
+        (Phase::Calm, _) => Some(CALM),
         (Phase::Closing, Level::Expanded) => Some(held),
         (Phase::Last, Level::Expanded) => Some(random.pick(&[held, BY_E])),
         _ => Some(on(random, edition, level)),

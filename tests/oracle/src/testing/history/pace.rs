@@ -20,7 +20,7 @@ pub enum Pace {
     Leaps,
 }
 
-/// Where a day stands among the weekdays in a row between two changes of season.
+/// Where a day stands among the weekdays in a row between two changes of season, or before a conversion.
 #[derive(Clone, Copy, Debug, PartialEq, Eq)]
 pub enum Phase {
     /// Soon after a change.
@@ -30,6 +30,8 @@ pub enum Phase {
     Closing,
     /// The last day before a change.
     Last,
+    /// The last day before a conversion: under the edition of 2014 every group comes to the initial level.
+    Calm,
 }
 
 /// So many days after a change, and before the last one, are soon.

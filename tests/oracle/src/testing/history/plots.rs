@@ -33,7 +33,7 @@ const fn beside(own: Picks, others: Picks) -> Plot {
 /// Those that trigger by as little as can be.
 pub const TRIGGERS: [Plot; 2] = [alone(TWO), alone(CROP_MONTH)];
 
-pub const ALL: [Plot; 19] = [
+pub const ALL: [Plot; 20] = [
     alone(TWO),
     alone(CROP_MONTH),
     alone(&[by_i(Which::LastOfFirst), by_i(Which::InFirst)]),
@@ -47,6 +47,7 @@ pub const ALL: [Plot; 19] = [
     alone(ONE),
     alone(ONE),
     beside(ONE, ONE),
+    alone(&[by_i(Which::OtherMonth), by_i(Which::NextPastFirst)]),
     alone(&[by_i(Which::OtherMonth), by_i(Which::NextPastFirst)]),
     alone(&[by_i(Which::PastFirst), by_i(Which::PastFirst)]),
     alone(&[by_i(Which::CropMonthPastFirst)]),

@@ -182,7 +182,7 @@ pub fn lively_product(random: &mut Random, book: &Book) -> usize {
     products.find(is_lively).unwrap_or(drawn)
 }
 
-const NO_CALLS: [&str; 43] = [
+const NO_CALLS: [&str; 48] = [
     " ",
     "  ",
     " end",
@@ -194,6 +194,11 @@ const NO_CALLS: [&str; 43] = [
     "END",
     "end 1",
     "ends",
+    "convert 1",
+    "convert 2023",
+    "convert ",
+    "Convert",
+    "converted",
     "book 1",
     "book ",
     "open",

@@ -24,6 +24,8 @@ pub struct Temper {
     pub quiet: usize,
     /// Business days left need not be those of the calendar.
     pub has_strange_left: bool,
+    /// The book is carried to the edition of 2023 once so many days have ended.
+    pub converts_after: Option<usize>,
 }
 
 impl Temper {
@@ -50,19 +52,34 @@ pub fn draw(random: &mut Random, seed: u64) -> Temper {
         5 => leap_years(random, &mut temper),
         _ => temper.pace = random.pick(&[Pace::Daily, Pace::Uneven]),
     }
+    if temper.edition == 2014 && random.one_in(2) {
+        temper.converts_after = Some(conversion_day(random, temper.pace));
+    }
     temper
+}
+
+/// Within one of the first two seasons that are lived through, or at the end of one; else any day, the first ones too.
+fn conversion_day(random: &mut Random, pace: Pace) -> usize {
+    let (Pace::Seasons(stay) | Pace::NextSeason(stay)) = pace else {
+        return random.pick(&[0, 1, 2, 5, 12, 40, 80]);
+    };
+    let within = 1 + random.below(stay - 1);
+    let end = stay - 1;
+    random.pick(&[within, end, stay + within, stay + end, stay + end])
 }
 
 fn common(random: &mut Random) -> Temper {
     let last = calendar().last();
     Temper {
-        edition: random.pick(&EDITIONS),
+        // Of those under 2014 many are converted.
+        edition: random.pick(&[2014, 2014, 2023]),
         limits: stray::fit_limits(random),
         market: market(random),
         pace: Pace::Uneven,
         first_day: random.below(last - 2_000),
         quiet: 3,
         has_strange_left: random.one_in(2),
+        converts_after: None,
     }
 }
 
@@ -114,6 +131,8 @@ const NEVER: usize = usize::MAX;
 /// Seasons that give new limits to some products and not to others; every other turn to one alone of each coupled group.
 fn fill_some_windows(random: &mut Random, temper: &mut Temper, turn: u64) {
     live_through_seasons(random, temper);
+    // Each product that is filled alone has its turns under either edition.
+    temper.edition = EDITIONS[turn as usize / 6 % EDITIONS.len()];
     let stay = random.pick(&[46, 46, 47, 48]);
     temper.pace = Pace::Seasons(stay);
     // Without moods limits stay what they are, and season limits can be equal to them.

@@ -1,6 +1,7 @@
 //! One group's part of a program's answers.
 
 use crate::book::GROUPS;
+use crate::history::answer::CONVERTED;
 
 /// What a line answers.
 #[derive(Clone, Copy, Debug, PartialEq, Eq)]
@@ -8,6 +9,7 @@ pub enum Kind {
     Opened,
     Check,
     Ended,
+    Converted,
     Book,
 }
 
@@ -23,6 +25,7 @@ pub fn part(kind: Kind, group: usize, answer: &str) -> Option<String> {
             let mut events = answer.strip_prefix("ended ")?.split(' ');
             events.nth(group).map(str::to_string)
         }
+        Kind::Converted => (answer == CONVERTED).then(|| answer.to_string()),
         Kind::Book => book_part(group, answer),
     }
 }
@@ -92,6 +95,10 @@ mod tests {
             part(Kind::Ended, 2, "ended a b c d e").as_deref(),
             Some("c")
         );
+        assert_eq!(
+            part(Kind::Converted, 2, "converted").as_deref(),
+            Some("converted")
+        );
         let check = "within:5800:6200";
         assert_eq!(part(Kind::Check, 2, check).as_deref(), Some(check));
     }
@@ -102,6 +109,7 @@ mod tests {
             assert_eq!(part(Kind::Book, 0, line), None);
             assert_eq!(part(Kind::Opened, 0, line), None);
             assert_eq!(part(Kind::Ended, 0, line), None);
+            assert_eq!(part(Kind::Converted, 0, line), None);
         }
     }
 }

@@ -1,5 +1,6 @@
 //! A whole history from a seed.
 
+mod conversions;
 mod strays;
 
 use super::calendar::calendar;
@@ -72,6 +73,7 @@ impl Scenario {
                 Call::Book,
                 Call::Open([2024, 6, 27, 1]),
                 Call::Check([0; 4]),
+                Call::Convert,
             ];
             let drawn = self.random.below(calls.len());
             self.call(calls[drawn].clone());
@@ -102,6 +104,7 @@ impl Scenario {
     fn day(&mut self) {
         self.stray_while_closed();
         let next = self.next_opening();
+        self.convert_when_due(next);
         if self.takes_chance() {
             let book = self.writer.book();
             let call = false_openings::draw(&mut self.random, book, next);
@@ -146,11 +149,13 @@ impl Scenario {
         }
     }
 
-    /// One day in six goes its own way.
+    /// One day in six goes its own way, but not the last one before a conversion.
     fn set_phase(&mut self) {
+        let day = self.ended + 1;
         self.temper.market.phase = match self.random.one_in(6) {
+            _ if self.temper.converts_after == Some(day) => Phase::Calm,
             true => Phase::Middle,
-            false => self.temper.pace.phase(self.ended + 1),
+            false => self.temper.pace.phase(day),
         };
     }
 

@@ -9,7 +9,7 @@ impl Scenario {
         let random = &mut self.random;
         let book = self.writer.book();
         let lively = stray::lively_product(random, book);
-        match random.below(12) {
+        match random.below(13) {
             0 => drop(self.call(Call::Book)),
             1 => self.call_refused(Call::End),
             2 => {
@@ -25,6 +25,7 @@ impl Scenario {
                 let order = stray::order_of(random, book, lively);
                 self.call(Call::Check(order));
             }
+            7 => self.convert_in_vain(),
             _ => {
                 let order = stray::order(random, book);
                 self.call(Call::Check(order));
@@ -55,7 +56,7 @@ impl Scenario {
         }
         let random = &mut self.random;
         let book = self.writer.book();
-        match random.below(6) {
+        match random.below(7) {
             0 => drop(self.call(Call::End)),
             1 => {
                 let order = stray::order(random, book);
@@ -66,6 +67,7 @@ impl Scenario {
                 self.call(Call::Check(order));
             }
             3 => self.stray_sheet_while_closed(),
+            4 => self.convert_in_vain(),
             _ => self.stray_anytime(),
         }
     }

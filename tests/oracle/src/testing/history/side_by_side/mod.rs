@@ -1,4 +1,4 @@
-//! Pairs of histories that agree on a group's sheets, and on openings and ends, and on no more.
+//! Pairs of histories that agree on a group's sheets, and on openings, ends and conversions, and on no more.
 
 mod side;
 
@@ -8,17 +8,31 @@ pub mod tests;
 use super::calendar::calendar;
 use super::compare::{lines, shown};
 use super::listing::Collected;
+use super::pace::{self, Phase};
 use super::view::{self, Kind};
-use super::{pace, stray, temper};
-use crate::book::edition::EDITIONS;
+use super::{stray, temper};
 use crate::book::{Book, GROUPS};
 use crate::history::answer;
 use crate::history::call::Call;
 use crate::testing::random::Random;
 use side::{Agreed, Side};
 
-/// Each temper twice under each edition.
-pub const PAIRS_A_GROUP: u64 = 4 * temper::TURNS;
+/// The edition of a founding, and whether the book is carried to that of 2023.
+type Course = (u32, bool);
+
+const COURSES: [Course; 5] = [
+    (2014, false),
+    (2023, false),
+    (2014, false),
+    (2023, false),
+    (2014, true),
+];
+
+/// Each temper on each course.
+pub const PAIRS_A_GROUP: u64 = COURSES.len() as u64 * temper::TURNS;
+
+/// Of so many days under 2023 one follows a conversion that changes nothing.
+const AGAIN: usize = 12;
 
 /// Of so many pairs one is led into a season that gives its group new limits, and another into a season that gives them
 /// to other groups on one side alone; few draws reach either.
@@ -30,6 +44,8 @@ pub struct Pair {
     pub group: usize,
     /// Under which both sides are founded.
     pub edition: u32,
+    /// Both are carried to 2023 once so many days have ended.
+    pub converts_after: Option<usize>,
     pub sides: [Side; 2],
 }
 
@@ -38,7 +54,7 @@ pub fn pair(group: usize, seed: u64) -> Pair {
     let mut random = Random::new(seed ^ (group as u64) << 32 ^ 0x51DE);
     let mut sides = [0, 1].map(|side| Side::new(&mut random, seed, side));
     let [first, second] = &mut sides;
-    let edition = EDITIONS[(seed / temper::TURNS % 2) as usize];
+    let (edition, is_carried) = COURSES[(seed / temper::TURNS) as usize % COURSES.len()];
     first.temper.edition = edition;
     second.temper.edition = edition;
     for &product in GROUPS[group] {
@@ -56,6 +72,7 @@ pub fn pair(group: usize, seed: u64) -> Pair {
     let mut pair = Pair {
         group,
         edition,
+        converts_after: is_carried.then(|| DAYS / 6 + random.below(DAYS / 2)),
         sides,
     };
     pair.live(&mut random);
@@ -82,10 +99,15 @@ impl Pair {
         let mut today = self.sides[0].temper.first_day;
         let pace = self.sides[0].temper.pace;
         for ended in 1..=DAYS {
+            let phase = match self.converts_after == Some(ended) {
+                true => Phase::Calm,
+                false => pace.phase(ended),
+            };
             for side in &mut self.sides {
-                side.temper.market.phase = pace.phase(ended);
+                side.temper.market.phase = phase;
             }
-            let agreed = self.agree(random, today);
+            let converts = self.converts_before(random, ended);
+            let agreed = self.agree(random, today, converts);
             for side in &mut self.sides {
                 side.day(self.group, &agreed, ended < DAYS);
             }
@@ -97,14 +119,26 @@ impl Pair {
         }
     }
 
+    /// Whether a conversion comes before a day, which both sides accept.
+    fn converts_before(&self, random: &mut Random, day: usize) -> bool {
+        let book = self.sides[0].book.as_ref().expect("a book was founded");
+        match book.edition {
+            2014 => self.converts_after == Some(day - 1),
+            _ => random.one_in(AGAIN),
+        }
+    }
+
     /// Draws what both sides do, on a copy of the first side's book.
-    fn agree(&self, random: &mut Random, today: usize) -> Agreed {
+    fn agree(&self, random: &mut Random, today: usize, converts: bool) -> Agreed {
         let side = &self.sides[0];
         let date = calendar().days[today];
         let last = side.book.as_ref().and_then(Book::last_opened);
         let left = pace::left_of(random, today, side.temper.has_strange_left, last);
         let opening = [date.year(), date.month(), date.day(), left];
         let mut book = side.book.clone();
+        if converts {
+            answer::answer(&mut book, &Call::Convert);
+        }
         answer::answer(&mut book, &Call::Open(opening));
         let book = book.expect("a book was founded");
         let checks = (0..random.below(5)).map(|_| {
@@ -112,6 +146,7 @@ impl Pair {
             Call::Check(order(random, &book, product))
         });
         Agreed {
+            converts,
             opening,
             checks: checks.collect(),
             sheets: side.temper.market.draft(random, &book, self.group),

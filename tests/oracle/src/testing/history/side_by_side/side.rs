@@ -18,8 +18,9 @@ pub struct Side {
     answered: usize,
 }
 
-/// What both sides do on a day: the opening, the group's sheets, and checks of the group.
+/// What both sides do on a day: a conversion before it or none, the opening, the group's sheets, and checks of the group.
 pub struct Agreed {
+    pub converts: bool,
     pub opening: [u32; 4],
     pub sheets: Vec<SheetCall>,
     pub checks: Vec<Call>,
@@ -71,6 +72,10 @@ impl Side {
 
     pub fn day(&mut self, group: usize, agreed: &Agreed, ends: bool) {
         self.refused_while_closed(agreed.opening);
+        if agreed.converts {
+            self.probe(&Call::Convert, Kind::Converted);
+            self.probe(&Call::Book, Kind::Book);
+        }
         self.probe(&Call::Open(agreed.opening), Kind::Opened);
         for step in self.steps(group, agreed) {
             self.stray(&step);
@@ -106,6 +111,7 @@ impl Side {
 
     fn refused_while_closed(&mut self, opening: [u32; 4]) {
         let book = self.book.as_ref().expect("a book was founded");
+        let cannot_be_carried = book.edition == 2014 && book.has_expanded_group();
         let calls = [
             Call::End,
             Call::Check(stray::order(&mut self.random, book)),
@@ -117,6 +123,9 @@ impl Side {
                 self.call_refused(&call);
             }
         }
+        if cannot_be_carried && self.random.one_in(4) {
+            self.call(&Call::Convert);
+        }
     }
 
     /// Refused calls, checks and lines that are no call, drawn by this side alone.
@@ -125,12 +134,13 @@ impl Side {
             return;
         }
         let book = self.book.as_ref().expect("a book was founded");
-        let call = match (self.random.below(6), step) {
+        let call = match (self.random.below(7), step) {
             (0 | 1, Step::Sheet(sheet)) => {
                 let sheet = faults::spoil(&mut self.random, book, sheet);
                 return self.call_refused(&Call::Sheet(sheet));
             }
             (2, _) => return self.call_refused(&Call::End),
+            (5, _) => Call::Convert,
             (3, _) => stray::bare(&mut self.random),
             (4, _) => Call::Check(stray::false_order(&mut self.random, book)),
             _ => Call::Check(stray::order(&mut self.random, book)),

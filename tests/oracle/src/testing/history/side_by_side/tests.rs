@@ -3,8 +3,10 @@
 use std::sync::OnceLock;
 
 use super::*;
+use crate::book::edition::EDITIONS;
 use crate::book::groups::COUPLED;
 use crate::book::{Level, Standing, GROUP_COUNT};
+use crate::history::answer::CONVERTED;
 use crate::history::replay::answers;
 use crate::refusal::Refusal;
 
@@ -110,7 +112,10 @@ fn several_pairs_of_each_coupled_group_are_led_by_each_of_its_products() {
 const RAISED: (Kind, &str) = (Kind::Ended, "raised");
 
 fn assert_reached(group: usize, year: u32, wanted: &[(Kind, &str)]) {
-    let is_under_it = |answered: &&Answered| answered.pair.edition == year;
+    let is_under_it = |answered: &&Answered| {
+        let pair = &answered.pair;
+        pair.edition == year && pair.converts_after.is_none()
+    };
     let pairs = pairs(group).iter().filter(is_under_it).map(reached);
     let pairs: Vec<Vec<(Kind, String)>> = pairs.collect();
     for (kind, word) in wanted {
@@ -133,17 +138,66 @@ fn several_pairs_of_each_group_and_edition_reach_each_event_verdict_and_season()
     }
 }
 
+/// The editions of a side's books, each once while it stays.
+fn editions(answers: &str) -> Vec<u32> {
+    let endings = answers
+        .lines()
+        .filter_map(|line| line.split_once(" edition="));
+    let editions = endings.map(|(_, edition)| edition.parse().expect("an edition is a number"));
+    let mut editions: Vec<u32> = editions.collect();
+    editions.dedup();
+    editions
+}
+
 #[test]
-fn both_sides_are_founded_under_the_pairs_edition() {
-    for answered in pairs(0) {
-        let edition = answered.pair.edition;
-        let founding = format!("found {edition} ");
-        let ending = format!(" edition={edition}");
-        for (side, text) in answered.pair.sides.iter().zip(answered.texts()) {
-            assert!(side.text.starts_with(founding.as_bytes()));
-            let mut books = text.lines().filter(|line| line.starts_with("book "));
-            assert!(books.all(|line| line.ends_with(&ending)));
+fn both_sides_are_under_the_pairs_edition_and_several_are_carried() {
+    for group in 0..GROUP_COUNT {
+        let mut carried = 0;
+        for answered in pairs(group) {
+            let pair = &answered.pair;
+            let founding = format!("found {} ", pair.edition);
+            let [first, second] = answered.texts().map(editions);
+            assert!(pair.sides[0].text.starts_with(founding.as_bytes()));
+            assert_eq!(first, second);
+            match pair.converts_after {
+                None => assert_eq!(first, [pair.edition]),
+                // A life that reaches the end of the calendar may be too short.
+                Some(_) => carried += usize::from(first == EDITIONS),
+            }
         }
+        assert!(carried >= SEVERAL, "group {group}: {carried}");
+    }
+}
+
+/// The openings, ends and conversions that a side accepted, in their order.
+fn course(answers: &str) -> Vec<&str> {
+    let words = answers.lines().filter_map(|line| line.split(' ').next());
+    let accepted = words.filter(|word| ["opened", "ended", CONVERTED].contains(word));
+    accepted.collect()
+}
+
+#[test]
+fn both_sides_accept_conversions_at_the_same_places() {
+    for group in 0..GROUP_COUNT {
+        let mut converted = 0;
+        for answered in pairs(group) {
+            let [first, second] = answered.texts().map(course);
+            assert_eq!(first, second);
+            let is_under_2023 = answered.pair.edition == 2023;
+            converted += usize::from(is_under_2023 && first.contains(&CONVERTED));
+        }
+        assert!(converted >= SEVERAL, "group {group}: {converted}");
+    }
+}
+
+#[test]
+fn some_pairs_of_each_group_are_raised_after_they_are_carried() {
+    let raised = (RAISED.0, RAISED.1.to_string());
+    for group in 0..GROUP_COUNT {
+        let is_carried = |answered: &&Answered| answered.pair.converts_after.is_some();
+        let mut carried = pairs(group).iter().filter(is_carried);
+        let is_raised = |answered: &Answered| reached(answered).contains(&raised);
+        assert!(carried.any(is_raised), "group {group}");
     }
 }
 
@@ -242,6 +296,11 @@ fn assert_refused_on_one_side(refusal: Refusal) {
 #[test]
 fn several_pairs_of_each_group_have_a_stale_left_on_one_side_alone() {
     assert_refused_on_one_side(Refusal::NotSmaller);
+}
+
+#[test]
+fn several_pairs_of_each_group_cannot_be_carried_on_one_side_alone() {
+    assert_refused_on_one_side(Refusal::Expanded);
 }
 
 #[test]

@@ -1,0 +1,41 @@
+//! Conversions in the course of a history, and beside it.
+
+use super::Scenario;
+use crate::history::answer::CONVERTED;
+use crate::history::call::Call;
+use crate::testing::history::false_openings;
+
+impl Scenario {
+    /// Carries the book to the edition of 2023 if its day has come, before this next one.
+    pub fn convert_when_due(&mut self, next: [u32; 4]) {
+        if self.temper.converts_after != Some(self.ended) {
+            return;
+        }
+        let answer = self.convert();
+        assert_eq!(answer, CONVERTED, "no group is expanded");
+        if self.random.one_in(3) {
+            self.convert();
+        }
+        // By itself, or by the last day before the conversion.
+        let book = self.writer.book();
+        let call = false_openings::draw(&mut self.random, book, next);
+        self.call(call);
+    }
+
+    /// A conversion that changes nothing: on an open day, of an expanded group, or under 2023 already.
+    pub fn convert_in_vain(&mut self) {
+        let book = self.writer.book();
+        if book.is_open || book.edition == 2023 || book.has_expanded_group() {
+            self.convert();
+        }
+    }
+
+    /// Gives the answer, too.
+    fn convert(&mut self) -> String {
+        let answer = self.call(Call::Convert);
+        if self.random.one_in(3) {
+            self.call(Call::Book);
+        }
+        answer
+    }
+}
