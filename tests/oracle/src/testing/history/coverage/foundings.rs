@@ -8,9 +8,11 @@ use crate::history::call::FoundCall;
 use crate::products::PRODUCTS;
 use crate::testing::history::stray::FALSE_EDITIONS;
 
-const WANTED: [&str; 4] = [
+const WANTED: [&str; 6] = [
     "found: founded",
     "found: founded afresh",
+    "found: founded under 2014 over a book that was carried",
+    "found: founded under 2023 over a book that was carried",
     "found: refused 13 without a book",
     "found: refused 13 with a book",
 ];
@@ -63,6 +65,12 @@ pub fn observe(coverage: &mut Coverage, call: &FoundCall, before: Option<&Book>,
             None => "found: founded",
             Some(_) => "found: founded afresh",
         });
+        if coverage.life.carried.is_some() {
+            coverage.count(format!(
+                "found: founded under {} over a book that was carried",
+                call.edition
+            ));
+        }
         return coverage.count(founded_key(call.edition, edition));
     };
     let mut limits = PRODUCTS.iter().zip(call.limits);

@@ -1,11 +1,14 @@
 //! How often histories reached what they are meant to reach.
 
+mod carried;
 mod checks;
+mod conversions;
 mod coupled;
 mod ends;
 mod ends_2014;
 mod event;
 mod foundings;
+mod life;
 mod openings;
 mod seasons;
 mod sheets;
@@ -17,6 +20,7 @@ use crate::book::edition::EDITIONS;
 use crate::book::{Book, GROUP_COUNT, PRODUCT_COUNT};
 use crate::history::call::Call;
 use coupled::LastEnd;
+use life::Life;
 use seasons::Turn;
 
 #[derive(Clone, Default)]
@@ -29,6 +33,7 @@ pub struct Coverage {
     /// Groups whose mark was dropped by new limits, and that have not moved by E since.
     dropped_marks: [bool; GROUP_COUNT],
     last_end: LastEnd,
+    life: Life,
 }
 
 /// A call with the answer that the model gave, and the book before and after it.
@@ -96,16 +101,21 @@ impl Coverage {
         answer: &str,
         after: Option<&Book>,
     ) {
-        match (call, Seen::new(before, answer, after)) {
+        let seen = Seen::new(before, answer, after);
+        match (call, &seen) {
             (Call::Found(call), _) => foundings::observe(self, call, before, answer),
             (Call::Bare(numbers), _) => checks::observe_bare(self, numbers, answer),
             (_, None) => self.count("format: no book"),
-            (Call::Open(numbers), Some(seen)) => openings::observe(self, numbers, &seen),
-            (Call::Sheet(sheet), Some(seen)) => sheets::observe(self, sheet, &seen),
-            (Call::End, Some(seen)) => ends::observe(self, &seen),
-            (Call::Convert, Some(_)) => {}
-            (Call::Check(numbers), Some(seen)) => checks::observe(self, numbers, &seen),
+            (Call::Open(numbers), Some(seen)) => openings::observe(self, numbers, seen),
+            (Call::Sheet(sheet), Some(seen)) => sheets::observe(self, sheet, seen),
+            (Call::End, Some(seen)) => ends::observe(self, seen),
+            (Call::Convert, Some(seen)) => conversions::observe(self, seen),
+            (Call::Check(numbers), Some(seen)) => checks::observe(self, numbers, seen),
             (Call::Book, Some(seen)) => self.observe_book(seen.before),
+        }
+        if let Some(seen) = &seen {
+            carried::observe(self, call, seen);
+            self.life.note(call, seen);
         }
     }
 
@@ -160,6 +170,8 @@ pub fn wanted() -> Vec<String> {
         .chain(sheets::wanted())
         .chain(ends::wanted())
         .chain(ends_2014::wanted())
+        .chain(conversions::wanted())
+        .chain(carried::wanted())
         .chain(coupled::wanted())
         .chain(checks::wanted())
         .chain(spans::wanted())
