@@ -32,12 +32,13 @@ const LONGEST_LIFE: usize = 120;
 /// More seeds than any base needs.
 const SEEDS: u64 = 1_000;
 
-/// Six under the edition of 2023, and of the others two under that of 2014; the last five have the most in them.
+/// Six under the edition of 2023, and of the others three under that of 2014; the last five have the most in them.
 pub fn bases() -> Vec<Base> {
     let [old, new] = EDITIONS.map(Life::under);
     let mut random = Random::new(1);
     let first_day = opened(&new.fresh, first_day());
     let last_day = opened(&new.full, new.next);
+    let calm = calmed(&mut random, &old);
     vec![
         base("fresh", &new.fresh),
         base("first day", &first_day),
@@ -45,6 +46,7 @@ pub fn bases() -> Vec<Base> {
             "first day, all sheets in",
             &filed(&mut random, &first_day, 8),
         ),
+        base("ended, windows full, no group expanded", &calm),
         base("ended, windows full", &new.full),
         base("open, windows full", &filed(&mut random, &last_day, 3)),
         base("open, windows full, all sheets in", &new.all_in),
@@ -99,7 +101,8 @@ fn base(name: &str, book: &Book) -> Base {
 
 /// One of them, more often one of those that have the most in them.
 pub fn draw<'a>(random: &mut Random, bases: &'a [Base]) -> &'a Base {
-    let from = random.pick(&[0, bases.len() - 5]);
+    let full = bases.len() - 5;
+    let from = random.pick(&[0, full, full]);
     &bases[from + random.below(bases.len() - from)]
 }
 
@@ -165,10 +168,26 @@ fn opened(book: &Book, day: usize) -> Book {
     book
 }
 
+/// The full book after one more day, on which contracts hardly moved.
+fn calmed(random: &mut Random, life: &Life) -> Book {
+    let calm = Market {
+        phase: Phase::Calm,
+        ..market()
+    };
+    let mut book = filed_by(&calm, random, &opened(&life.full, life.next), 8);
+    book.end().expect("all sheets are in");
+    assert!(!book.has_expanded_group());
+    book
+}
+
 /// The open day with so many sheets in.
 fn filed(random: &mut Random, book: &Book, count: usize) -> Book {
+    filed_by(&market(), random, book, count)
+}
+
+fn filed_by(market: &Market, random: &mut Random, book: &Book, count: usize) -> Book {
     let mut book = book.clone();
-    let drafts = market().draft_all(random, &book);
+    let drafts = market.draft_all(random, &book);
     for sheet in drafts.iter().take(count) {
         let filing = book.file(sheet.product, &sheet.months, &sheet.settlements);
         filing.expect("a drafted sheet is accepted");

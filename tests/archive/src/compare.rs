@@ -38,6 +38,7 @@ impl Comparer {
     pub fn change(&mut self, image: &Image, call: &Call) -> (Compared, Image) {
         self.both(
             image,
+            *call == Call::Convert,
             |image| by_oracle(image, call),
             |archive, image| archive.call(image, call),
         )
@@ -53,16 +54,18 @@ impl Comparer {
     ) -> Compared {
         let (compared, _) = self.both(
             image,
+            false,
             |image| image.sheet(product, months, settlements),
             |_, image| archive::sheet(image, product, months, settlements),
         );
         compared
     }
 
-    /// Refused, a call leaves every word; accepted, those that mean something are as expected.
+    /// Refused, a call leaves every word; accepted, those that mean something are as expected, or all of them.
     fn both(
         &mut self,
         image: &Image,
+        is_exact: bool,
         by_oracle: impl FnOnce(&mut Image) -> u32,
         by_archive: impl FnOnce(&mut Archive, &mut Image) -> u32,
     ) -> (Compared, Image) {
@@ -71,6 +74,7 @@ impl Comparer {
         let lent = self.place.lend(image);
         let returned = by_archive(&mut self.archive, lent);
         let left = match number {
+            ACCEPTED if is_exact => different_word(&after, lent),
             ACCEPTED => different_word(&after.without_unused(), &lent.without_unused()),
             _ => different_word(image, lent),
         };

@@ -10,7 +10,7 @@ use oracle::testing::history::calendar::calendar;
 use oracle::testing::history::{false_openings, faults, pace, stray, temper};
 use oracle::testing::random::Random;
 
-/// A founding that is accepted and one that is not, then an opening, a sheet and an end.
+/// A founding that is accepted and one that is not, then an opening, a sheet, an end and a conversion.
 pub fn changes(random: &mut Random, book: &Book) -> Vec<Call> {
     vec![
         founding(random),
@@ -18,6 +18,7 @@ pub fn changes(random: &mut Random, book: &Book) -> Vec<Call> {
         opening(random, book),
         sheet(random, book),
         Call::End,
+        Call::Convert,
     ]
 }
 
@@ -32,7 +33,8 @@ fn founding(random: &mut Random) -> Call {
     })
 }
 
-fn opening(random: &mut Random, book: &Book) -> Call {
+/// The opening of a later day, one time in three a false one.
+pub fn opening(random: &mut Random, book: &Book) -> Call {
     let next = next_day(random, book);
     match random.one_in(3) {
         true => false_openings::draw(random, book, next),

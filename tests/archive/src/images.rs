@@ -19,8 +19,8 @@ use crate::fields::{Field, PARTS};
 use crate::noise;
 use crate::odd;
 use crate::reached::{
-    Reached, ANSWERS, BACK_BY, BROUGHT_BACK, ENDS, FIRST, LED_BY, NONE_FULL, OUTCOMES, SAME_SEASON,
-    SKIPPED, TURNS, UNSOUND,
+    Reached, ANSWERS, BACK_BY, BROUGHT_BACK, CONVERTED, ENDS, FIRST, LED_BY, NONE_FULL, OUTCOMES,
+    SAME_SEASON, SKIPPED, TURNS, UNSOUND,
 };
 use crate::values::wrong_values;
 
@@ -92,6 +92,7 @@ impl<'a> Run<'a> {
         match call {
             Call::Open(_) => self.note_opened(before, after),
             Call::End => self.note_ended(after),
+            Call::Convert => self.reached.count(CONVERTED.0, before.edition),
             _ => {}
         }
     }
@@ -194,7 +195,7 @@ fn turn(before: &Book, after: &Book, full: usize) -> Option<&'static str> {
     }
 }
 
-fn name_of(call: &Call) -> &'static str {
+pub fn name_of(call: &Call) -> &'static str {
     match call {
         Call::Found(_) => "found",
         Call::Open(_) => "open",

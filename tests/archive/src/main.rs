@@ -4,6 +4,7 @@ mod archive;
 mod arrays;
 mod bases;
 mod compare;
+mod conversions;
 mod draw;
 mod editions;
 mod fields;
@@ -35,6 +36,7 @@ fn main() -> ExitCode {
     let bases = bases::bases();
     images::compare(&mut comparer, &bases, &mut score);
     editions::compare(&mut comparer, &bases, &mut score);
+    conversions::compare(&mut comparer, &bases, &mut score);
     old_format::compare(&mut comparer, &bases, &mut score);
     lefts::compare(&mut comparer, &bases, &mut score);
     arrays::compare(&mut comparer, &bases, &mut score);

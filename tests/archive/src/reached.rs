@@ -11,19 +11,23 @@ pub const UNSOUND: u32 = 1;
 pub type Range = (&'static str, &'static [u32]);
 
 /// What each call can return.
-pub const ANSWERS: [Range; 6] = [
+pub const ANSWERS: [Range; 7] = [
     ("found", &[0, 17, 13]),
     ("open", &[0, UNSOUND, 2, 3, 4, 16]),
     ("sheet", &[0, UNSOUND, 2, 5, 11, 6, 7, 8, 9, 10]),
     ("end", &[0, UNSOUND, 2, 12]),
+    ("convert", &[0, UNSOUND, 2, 18]),
     ("check", CHECK),
     ("tallied check", CHECK),
 ];
 
 pub const CHECK: &[u32] = &[100, 101, 102, 103, UNSOUND, 2, 5, 14, 8];
 
-/// What accepted openings and ends put in: whether a product got new limits, and a group's event.
-pub const OUTCOMES: [Range; 3] = [("renewed", &[0, 1]), EVENTS[0], EVENTS[1]];
+/// What accepted openings and ends put in: whether a product got new limits, and a group's event. And the editions of the
+/// images that were converted.
+pub const OUTCOMES: [Range; 4] = [("renewed", &[0, 1]), EVENTS[0], EVENTS[1], CONVERTED];
+
+pub const CONVERTED: Range = ("converted from", &EDITIONS);
 
 /// Under the editions in their order; that of 2014 raises nothing.
 pub const EVENTS: [Range; 2] = [
