@@ -9,10 +9,10 @@ use std::process::{Command, ExitCode, Stdio};
 use std::time::Instant;
 
 use oracle::book::edition::EDITIONS;
-use oracle::testing::history::days;
+use oracle::testing::history::days::{self, Life};
 
 /// Of the books whose calls are measured one kind by one.
-const EDITION: u32 = 2023;
+const LIFE: Life = Life::Under(2023);
 
 const ROUNDS: usize = 5;
 const CHECKS_A_DAY: usize = 10;
@@ -74,13 +74,13 @@ fn in_turn(program: &Path, oracle: &Path, history: &History) -> io::Result<(f64,
     Ok((median(ours), median(theirs)))
 }
 
-fn compare(program: &Path, oracle: &Path, folder: &Path, edition: u32) -> io::Result<()> {
-    let life = days::all_days(edition, CHECKS_A_DAY).text;
-    let history = write(folder, "days.history", &[&life])?;
+fn compare(program: &Path, oracle: &Path, folder: &Path, life: Life) -> io::Result<()> {
+    let days = days::all_days(life, CHECKS_A_DAY).text;
+    let history = write(folder, "days.history", &[&days])?;
     let (ours, theirs) = in_turn(program, oracle, &history)?;
     let speed = |time: f64| history.calls as f64 / time;
     println!(
-        "{} calls of 36,160 days under the edition of {edition} with ten checks a day, \
+        "{} calls of 36,160 days {life} with ten checks a day, \
          median of {ROUNDS} runs in turn",
         history.calls
     );
@@ -97,11 +97,7 @@ fn compare(program: &Path, oracle: &Path, folder: &Path, edition: u32) -> io::Re
 fn sections(program: &Path, folder: &Path) -> io::Result<()> {
     let mut before = (0.0, 0);
     for count in SECTIONS {
-        let history = write(
-            folder,
-            "first.history",
-            &[&days::days(EDITION, 0, count).text],
-        )?;
+        let history = write(folder, "first.history", &[&days::days(LIFE, 0, count).text])?;
         let times: io::Result<Vec<f64>> = (0..ROUNDS).map(|_| seconds(program, &history)).collect();
         let time = median(times?);
         let calls = history.calls - before.1;
@@ -116,7 +112,7 @@ fn sections(program: &Path, folder: &Path) -> io::Result<()> {
 
 /// One founding after another, each through all its days.
 fn foundings(program: &Path, folder: &Path) -> io::Result<()> {
-    let life = days::all_days(EDITION, 0).text;
+    let life = days::all_days(LIFE, 0).text;
     let one = write(folder, "life.history", &[&life])?;
     let all = write(folder, "lives.history", &vec![life.as_slice(); FOUNDINGS])?;
     let first = seconds(program, &one)? / one.calls as f64;
@@ -132,7 +128,7 @@ fn foundings(program: &Path, folder: &Path) -> io::Result<()> {
 
 /// One check again and again, on a book with full windows.
 fn one_check(program: &Path, folder: &Path) -> io::Result<()> {
-    let life = days::days(EDITION, CHECKS_A_DAY, 100).text;
+    let life = days::days(LIFE, CHECKS_A_DAY, 100).text;
     let text = String::from_utf8_lossy(&life);
     let last_end = text.rfind("end\n").unwrap_or(0);
     let check = text
@@ -167,7 +163,7 @@ fn main() -> ExitCode {
     };
     let mut compared = EDITIONS
         .into_iter()
-        .map(|edition| compare(program, oracle, folder, edition));
+        .map(|edition| compare(program, oracle, folder, Life::Under(edition)));
     let done = compared
         .try_for_each(|one| one)
         .and_then(|()| sections(program, folder))

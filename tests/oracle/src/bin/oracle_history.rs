@@ -1,28 +1,32 @@
-//! Prints a history: `oracle_history days EDITION` or `oracle_history seed N`.
+//! Prints a history: `oracle_history days LIFE` or `oracle_history seed N`.
 
 use std::io::{self, Write};
 use std::process::ExitCode;
 
 use oracle::book::edition::EDITIONS;
-use oracle::testing::history::{days, scenario};
+use oracle::testing::history::days::{self, Life};
+use oracle::testing::history::scenario;
 
-const USAGE: &str = "usage: oracle_history days EDITION | oracle_history seed N
-days EDITION  every day from 2000 to 2098 with ten checks, no call refused, under the edition of 2014 or 2023
-seed N        about 2,000 calls drawn from N";
+const USAGE: &str = "usage: oracle_history days LIFE | oracle_history seed N
+days LIFE  every day from 2000 to 2098 with ten checks, no call refused; LIFE is 2014, 2023 or carried
+seed N     about 2,000 calls drawn from N";
 
 const CHECKS_A_DAY: usize = 10;
 
-/// A year that is an edition's.
-fn edition(year: &str) -> Option<u32> {
-    let year = year.parse().ok()?;
-    EDITIONS.contains(&year).then_some(year)
+/// The word `carried`, or a year that is an edition's.
+fn life(word: &str) -> Option<Life> {
+    if word == "carried" {
+        return Some(Life::Carried);
+    }
+    let year = word.parse().ok()?;
+    EDITIONS.contains(&year).then_some(Life::Under(year))
 }
 
 fn main() -> ExitCode {
     let arguments: Vec<String> = std::env::args().skip(1).collect();
     let words: Vec<&str> = arguments.iter().map(String::as_str).collect();
     let text = match words.as_slice() {
-        ["days", year] => edition(year).map(|edition| days::all_days(edition, CHECKS_A_DAY).text),
+        ["days", word] => life(word).map(|life| days::all_days(life, CHECKS_A_DAY).text),
         ["seed", seed] => seed.parse().ok().map(|seed| scenario::history(seed).text),
         _ => None,
     };

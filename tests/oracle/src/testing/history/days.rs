@@ -1,5 +1,7 @@
 //! One book through every day from 2000 to 2098, with no call refused.
 
+use std::fmt;
+
 use super::calendar::calendar;
 use super::listing::{Collected, Custom};
 use super::market::Market;
@@ -20,6 +22,36 @@ const LIMITS: [u32; 8] = [200, 400, 200, 200, 240, 240, 160, 100];
 /// About where the products settle, in their own units.
 const PRICES: [u32; 8] = [3_600, 8_000, 3_000, 3_500, 4_400, 4_400, 2_400, 2_800];
 
+/// The editions that a book lives under.
+#[derive(Clone, Copy, Debug, PartialEq, Eq)]
+pub enum Life {
+    /// One edition.
+    Under(u32),
+    /// 2014, and 2023 from the middle of its days on.
+    Carried,
+}
+
+/// Every life that is lived through all days.
+pub const LIVES: [Life; 3] = [Life::Under(2014), Life::Under(2023), Life::Carried];
+
+impl Life {
+    fn first_edition(self) -> u32 {
+        match self {
+            Life::Under(edition) => edition,
+            Life::Carried => 2014,
+        }
+    }
+}
+
+impl fmt::Display for Life {
+    fn fmt(&self, formatter: &mut fmt::Formatter) -> fmt::Result {
+        match self {
+            Life::Under(edition) => write!(formatter, "under the edition of {edition}"),
+            Life::Carried => write!(formatter, "under both editions"),
+        }
+    }
+}
+
 /// A history, and the answers that this implementation gave while it was made.
 #[derive(Default)]
 pub struct Days {
@@ -34,13 +66,13 @@ struct Course {
     book: Option<Book>,
 }
 
-/// The history of all 36,160 days under an edition, with so many checks a day from the second on.
-pub fn all_days(edition: u32, checks: usize) -> Days {
-    days(edition, checks, calendar().days.len())
+/// The history of all 36,160 days of a life, with so many checks a day from the second on.
+pub fn all_days(life: Life, checks: usize) -> Days {
+    days(life, checks, calendar().days.len())
 }
 
 /// The history of the first days.
-pub fn days(edition: u32, checks: usize, count: usize) -> Days {
+pub fn days(life: Life, checks: usize, count: usize) -> Days {
     let mut course = Course {
         random: Random::new(SEED),
         market: market(),
@@ -48,10 +80,18 @@ pub fn days(edition: u32, checks: usize, count: usize) -> Days {
         book: None,
     };
     course.call(Call::Found(FoundCall {
-        edition,
+        edition: life.first_edition(),
         limits: LIMITS,
     }));
-    for &date in calendar().days.iter().take(count) {
+    let converts_before = (life == Life::Carried).then_some(count / 2);
+    for (day, &date) in calendar().days.iter().take(count).enumerate() {
+        if converts_before == Some(day) {
+            course.call(Call::Convert);
+        }
+        course.market.phase = match converts_before == Some(day + 1) {
+            true => Phase::Calm,
+            false => Phase::Middle,
+        };
         course.day(date, checks);
     }
     course.days
@@ -129,17 +169,17 @@ impl Course {
 #[cfg(test)]
 mod tests {
     use super::*;
-    use crate::book::edition::EDITIONS;
     use crate::history::replay::answers;
 
     #[test]
     fn two_years_are_accepted_and_reach_events() {
-        for edition in EDITIONS {
-            let days = days(edition, 10, 800);
-            assert!(answers(&days.text) == days.answers, "{edition}");
+        for life in LIVES {
+            let days = days(life, 10, 800);
+            assert!(answers(&days.text) == days.answers, "{life}");
             let answers = String::from_utf8(days.answers).expect("answers are text");
             assert!(!answers.contains("refused"));
-            assert_eq!(answers.contains("raised"), edition == 2023);
+            assert_eq!(answers.contains("raised"), life != Life::Under(2014));
+            assert_eq!(answers.contains("converted"), life == Life::Carried);
             for word in [
                 "opened 1",
                 "triggered",
@@ -148,8 +188,23 @@ mod tests {
                 "within",
                 "above",
             ] {
-                assert!(answers.contains(word), "{edition}: {word}");
+                assert!(answers.contains(word), "{life}: {word}");
             }
         }
+    }
+
+    #[test]
+    fn the_editions_of_a_carried_life_are_told_apart_by_what_they_raise() {
+        let days = days(Life::Carried, 0, 800);
+        let answers = String::from_utf8(days.answers).expect("answers are text");
+        let halves = answers.split_once("\nconverted\n");
+        let (old, new) = halves.expect("the life is carried");
+        assert!(!old.contains("raised") && new.contains("raised"));
+        let ends = |half: &str| {
+            half.lines()
+                .filter(|line| line.starts_with("ended"))
+                .count()
+        };
+        assert_eq!([ends(old), ends(new)], [400, 400]);
     }
 }

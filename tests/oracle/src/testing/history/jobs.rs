@@ -5,6 +5,7 @@ use std::{fs, io};
 
 use super::compare::{answered_lines, difference, lines};
 use super::coverage::Coverage;
+use super::days::{Life, LIVES};
 use super::sent_again::SentAgain;
 use super::side_by_side::PAIRS_A_GROUP;
 use super::{days, every_date, garbage, scenario, sent_again, side_by_side};
@@ -15,8 +16,8 @@ use crate::testing::program::{Delivery, Program};
 
 #[derive(Clone, Debug)]
 pub enum Job {
-    /// Every day from 2000 to 2098, under an edition.
-    AllDays(u32),
+    /// Every day from 2000 to 2098, of a life.
+    AllDays(Life),
     /// Every year, month and day from 1999 to 2099, true or false, under an edition.
     EveryDate(u32),
     /// A generated history, by its seed.
@@ -82,12 +83,9 @@ pub fn all(examples: Vec<PathBuf>) -> Vec<Job> {
     let pairs = (0..GROUP_COUNT)
         .flat_map(|group| (0..PAIRS_A_GROUP).map(move |seed| Job::SideBySide { group, seed }));
     let drawn = generated.chain(sent_again).chain(pairs).chain(garbage);
-    let long = EDITIONS.map(|edition| [Job::AllDays(edition), Job::EveryDate(edition)]);
-    long.into_iter()
-        .flatten()
-        .chain(examples)
-        .chain(drawn)
-        .collect()
+    let lives = LIVES.into_iter().map(Job::AllDays);
+    let dates = EDITIONS.into_iter().map(Job::EveryDate);
+    lives.chain(dates).chain(examples).chain(drawn).collect()
 }
 
 impl Job {
@@ -106,7 +104,7 @@ impl Job {
 
     pub fn name(&self) -> String {
         match self {
-            Job::AllDays(edition) => format!("{ALL_DAYS} under the edition of {edition}"),
+            Job::AllDays(life) => format!("{ALL_DAYS} {life}"),
             Job::EveryDate(edition) => format!("{EVERY_DATE} under the edition of {edition}"),
             Job::Generated(seed) | Job::SentAgain(seed) => format!("seed {seed}"),
             Job::Example(path) => format!("{EXAMPLE} {}", path.display()),
@@ -118,7 +116,7 @@ impl Job {
     /// The histories that the job is about.
     pub fn histories(&self) -> io::Result<Vec<Vec<u8>>> {
         Ok(match self {
-            Job::AllDays(edition) => vec![days::all_days(*edition, CHECKS_A_DAY).text],
+            Job::AllDays(life) => vec![days::all_days(*life, CHECKS_A_DAY).text],
             Job::EveryDate(edition) => vec![every_date::history(*edition)],
             Job::Generated(seed) => vec![scenario::history(*seed).text],
             Job::SentAgain(seed) => {
@@ -138,7 +136,7 @@ impl Job {
 /// Runs a job with a program under test.
 pub fn run(program: &mut Program, job: &Job) -> Outcome {
     match job {
-        Job::AllDays(edition) => one(job, all_days(program, *edition)),
+        Job::AllDays(life) => one(job, all_days(program, *life)),
         Job::EveryDate(edition) => one(job, every_date(program, *edition)),
         Job::Generated(seed) => generated(program, job, *seed),
         Job::SentAgain(seed) => one(job, sent_again(program, *seed)),
@@ -198,8 +196,8 @@ fn example(program: &mut Program, path: &Path) -> Option<String> {
 }
 
 /// No call of all days is refused, by this implementation or by the program.
-fn all_days(program: &mut Program, edition: u32) -> Option<String> {
-    let days = days::all_days(edition, CHECKS_A_DAY);
+fn all_days(program: &mut Program, life: Life) -> Option<String> {
+    let days = days::all_days(life, CHECKS_A_DAY);
     compare(program, &days.text, &days.answers)
 }
 
