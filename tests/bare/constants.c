@@ -47,6 +47,7 @@ static const struct constant {
     CONSTANT(BOTSKHELA_TALLY_FULL, 15),
     CONSTANT(BOTSKHELA_LEFT_NOT_SMALLER, 16),
     CONSTANT(BOTSKHELA_UNKNOWN_EDITION, 17),
+    CONSTANT(BOTSKHELA_GROUP_EXPANDED, 18),
     /* The header's own: the rule numbers neither events nor formats. */
     CONSTANT(BOTSKHELA_QUIET, 0),
     CONSTANT(BOTSKHELA_TRIGGERED, 1),
