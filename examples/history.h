@@ -1,7 +1,7 @@
 /*
- * The lines of a history that change a book, as calls on it: found, open, sheet and end, in the form that README.md gives.
- * The lines check, bare and book change nothing and are passed over, as blank lines and comments are. A line of over 1023
- * characters is no call.
+ * The lines of a history that change a book, as calls on it: found, open, sheet, end and convert, in the form that README.md
+ * gives. The lines check, bare and book change nothing and are passed over, as blank lines and comments are. A line of over
+ * 1023 characters is no call.
  */
 #ifndef HISTORY_H
 #define HISTORY_H
@@ -17,7 +17,7 @@
 /* A sheet of more contracts is refused as one of 17 is, so no more are kept. */
 #define MOST_CONTRACTS 17
 
-enum call { CALL_NO_MORE, CALL_NONE, CALL_FOUND, CALL_OPEN, CALL_SHEET, CALL_END };
+enum call { CALL_NO_MORE, CALL_NONE, CALL_FOUND, CALL_OPEN, CALL_SHEET, CALL_END, CALL_CONVERT };
 
 struct history {
     FILE *file;
@@ -73,11 +73,13 @@ static inline int make_sheet(botskhela_book *book, const char *text, uint32_t *r
     return 1;
 }
 
-static inline int make_end(botskhela_book *book, const char *text, uint32_t *refusal)
+/* An end or a conversion, which take no numbers. */
+static inline int make_plain(uint32_t (*call)(botskhela_book *), botskhela_book *book, const char *text,
+                             uint32_t *refusal)
 {
     if (*skip_blanks(text) != '\0')
         return 0;
-    *refusal = botskhela_end(book);
+    *refusal = call(book);
     return 1;
 }
 
@@ -92,7 +94,9 @@ static inline enum call make_call(botskhela_book *book, const char *line, uint32
     if ((rest = read_word(line, "sheet")) != NULL)
         return make_sheet(book, rest, refusal) ? CALL_SHEET : CALL_NONE;
     if ((rest = read_word(line, "end")) != NULL)
-        return make_end(book, rest, refusal) ? CALL_END : CALL_NONE;
+        return make_plain(botskhela_end, book, rest, refusal) ? CALL_END : CALL_NONE;
+    if ((rest = read_word(line, "convert")) != NULL)
+        return make_plain(botskhela_convert, book, rest, refusal) ? CALL_CONVERT : CALL_NONE;
     return CALL_NONE;
 }
 

@@ -62,6 +62,7 @@ static inline const char *refusal_name(uint32_t refusal)
         [BOTSKHELA_TALLY_FULL] = "tally full",
         [BOTSKHELA_LEFT_NOT_SMALLER] = "left not smaller",
         [BOTSKHELA_UNKNOWN_EDITION] = "no such edition",
+        [BOTSKHELA_GROUP_EXPANDED] = "group expanded",
     };
 
     if (refusal == 0 || refusal >= sizeof names / sizeof names[0])

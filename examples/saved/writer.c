@@ -75,6 +75,8 @@ static void print_answer(enum call call, uint32_t refusal, const botskhela_book 
         print_renewed(book);
     else if (call == CALL_SHEET)
         puts("filed");
+    else if (call == CALL_CONVERT)
+        puts("converted");
     else
         print_events(book);
 }
