@@ -27,6 +27,7 @@ struct library {
     uint32_t (*sheet)(botskhela_book *, uint32_t, const uint32_t *, size_t, const uint32_t *,
                       size_t);
     uint32_t (*end)(botskhela_book *);
+    uint32_t (*convert)(botskhela_book *);
     uint32_t (*check)(const botskhela_book *, uint32_t, uint32_t, uint32_t, uint32_t);
     botskhela_span (*check_span)(const botskhela_book *, uint32_t, uint32_t, uint32_t, uint32_t);
     uint32_t (*tallied_check)(botskhela_tally *, const botskhela_book *, uint32_t, uint32_t,
@@ -34,19 +35,19 @@ struct library {
 };
 
 static const struct library PROVED = {
-    botskhela_found, botskhela_open,       botskhela_sheet,              botskhela_end,
-    botskhela_check, botskhela_check_span, botskhela_tallied_book_check,
+    botskhela_found,   botskhela_open,  botskhela_sheet,      botskhela_end,
+    botskhela_convert, botskhela_check, botskhela_check_span, botskhela_tallied_book_check,
 };
 static const struct library ORACLE = {
-    oracle_found, oracle_open,       oracle_sheet,              oracle_end,
-    oracle_check, oracle_check_span, oracle_tallied_book_check,
+    oracle_found,   oracle_open,  oracle_sheet,      oracle_end,
+    oracle_convert, oracle_check, oracle_check_span, oracle_tallied_book_check,
 };
 
 /* Every product trades these. */
 static const uint32_t MONTHS[] = {3, 5, 7, 9};
 
-/* A book with full windows and sheets of 16: after an end, with the next day open, and with all sheets in. */
-static botskhela_book ended, opened, filed;
+/* A book with full windows and sheets of 16: after an end, the same under 2014, with the next day open, and with all sheets in. */
+static botskhela_book ended, ended_2014, opened, filed;
 
 static uint32_t months[CONTRACTS];
 static uint32_t settlements[PRODUCTS][CONTRACTS];
@@ -116,6 +117,9 @@ static int make_books(void)
     for (uint32_t day = 0; day < DAYS; day++)
         refused |= open_and_file(&book, day) || botskhela_end(&book) != 0;
     ended = book;
+    /* Its days were quiet, and under 2014 are the same. */
+    ended_2014 = book;
+    ended_2014.edition = BOTSKHELA_EDITION_2014;
     refused |= open_and_file(&book, DAYS);
     filed = book;
     return refused || ended.windows.counts[0] != 45 || filed.today[7].count != CONTRACTS;
@@ -148,6 +152,12 @@ static uint32_t make_end(const struct library *library, botskhela_book *book, ui
 {
     (void)turn;
     return library->end(book);
+}
+
+static uint32_t make_convert(const struct library *library, botskhela_book *book, uint32_t turn)
+{
+    (void)turn;
+    return library->convert(book);
 }
 
 /* Orders of each product and contract, below its limit, within it and above it. */
@@ -205,6 +215,7 @@ static const struct step STEPS[] = {
     {"open, next season", make_season, &ended, 1},
     {"sheet", make_sheet, &opened, 1},
     {"end", make_end, &filed, 1},
+    {"convert", make_convert, &ended_2014, 1},
     {"check", make_check, &opened, 0},
     {"check_span", make_check_span, &opened, 0},
     {"tallied_book_check", make_tallied, &opened, 0},
