@@ -105,21 +105,37 @@ fn an_expanded_group_is_refused_under_2014_alone() {
     }
 }
 
+/// A book under 2014 to which each refusal applies or does not.
+fn faulty(is_unsound: bool, is_open: bool, is_expanded: bool) -> Book {
+    let mut book = match is_open {
+        true => open_book_under(2014),
+        false => Trial::under(2014, LIMITS).book,
+    };
+    if is_expanded {
+        book.standings[0] = EXPANDED;
+    }
+    if is_unsound {
+        // June has 30 days.
+        book.left = 31;
+    }
+    book
+}
+
 #[test]
 fn refusals_come_in_the_order_1_2_18() {
-    let mut book = open_book_under(2014);
-    book.standings[0] = EXPANDED;
-    assert_eq!(refusal(&book), Some(Refusal::Day));
-    let mut damaged = book.clone();
-    damaged.left = 31;
-    assert_eq!(refusal(&damaged), Some(Refusal::Unsound));
-    damaged.is_open = false;
-    assert_eq!(refusal(&damaged), Some(Refusal::Unsound));
-    damaged.sheets_in = Default::default();
-    damaged.left = 0;
-    assert_eq!(refusal(&damaged), Some(Refusal::Expanded));
-    damaged.standings[0] = Standing::INITIAL;
-    assert_eq!(refusal(&damaged), None);
+    for (is_unsound, is_open, is_expanded, due) in [
+        (false, false, false, None),
+        (false, false, true, Some(Refusal::Expanded)),
+        (false, true, false, Some(Refusal::Day)),
+        (false, true, true, Some(Refusal::Day)),
+        (true, false, false, Some(Refusal::Unsound)),
+        (true, false, true, Some(Refusal::Unsound)),
+        (true, true, false, Some(Refusal::Unsound)),
+        (true, true, true, Some(Refusal::Unsound)),
+    ] {
+        let book = faulty(is_unsound, is_open, is_expanded);
+        assert_eq!(refusal(&book), due, "{is_unsound} {is_open} {is_expanded}");
+    }
 }
 
 #[test]
