@@ -151,13 +151,29 @@ fn no_edition_and_a_mark_under_2014_are_unsound() {
     assert_eq!(refusal(&under_2023(&book)), None);
 }
 
-#[test]
-fn a_group_that_reverted_can_be_carried() {
+/// July and December Corn at I expand it, and a day later it is back.
+fn reverted_under_2014() -> Trial {
     let mut trial = Trial::under(2014, LIMITS);
-    trial.day(&[(CORN, 0, 200), (CORN, 1, 200)]);
+    let triggered = Event::Triggered(contract(CORN, 0));
+    assert_eq!(trial.day(&[(CORN, 0, 200), (CORN, 2, -200)])[0], triggered);
     assert_eq!(refusal(&trial.book), Some(Refusal::Expanded));
     assert_eq!(trial.day(&[(CORN, 0, 200)])[0], Event::Reverted);
+    trial
+}
+
+/// December Corn is no crop month, and 2014 asks for two contracts.
+#[test]
+fn a_group_that_reverted_is_triggered_by_one_contract_after_it() {
+    let december = [(CORN, 2, 200)];
+    assert_eq!(reverted_under_2014().day(&december)[0], Event::Quiet);
+    let mut trial = reverted_under_2014();
     assert_eq!(converted(&trial.book), under_2023(&trial.book));
+    trial.book = converted(&trial.book);
+    let triggered = Event::Triggered(contract(CORN, 2));
+    assert_eq!(trial.day(&december)[0], triggered);
+    assert_eq!(trial.book.standings[0], EXPANDED);
+    trial.open();
+    trial.assert_limit(CORN, 320);
 }
 
 #[test]
