@@ -226,23 +226,41 @@ fn groups_are_held_by_i_and_raised_by_e_after_it() {
     assert_eq!(trial.book.limits[OATS], Limits::from_initial(OATS, 240));
 }
 
-/// Of 45 settlements so many were collected under 2014, and the others after a conversion.
-fn season_limits_with(under_2014: usize) -> [Limits; 8] {
-    let mut trial = Trial::under(2014, LIMITS);
-    trial.book.windows = std::array::from_fn(|_| vec![6_000; under_2014]);
-    assert_eq!(trial.book.convert(), Ok(()));
-    for _ in under_2014..45 {
-        trial.day(&[]);
-    }
-    assert_eq!(trial.book.open(2024, 11, 1, 20), Ok([true; 8]));
-    trial.book.limits
+/// Year, month, day and left of the 44 days after the first one of a trial.
+fn dates() -> impl Iterator<Item = [u32; 4]> {
+    let june = (4..=30).map(|day| [2024, 6, day, 30 - day]);
+    june.chain((1..=17).map(|day| [2024, 7, day, 31 - day]))
 }
 
+/// A book in the season after 45 days, of which so many ended under 2014. From the conversion on December Corn, the
+/// collected contract, settles 198 higher every day, which triggers nothing.
+fn after_a_season(under_2014: usize) -> Book {
+    let mut trial = Trial::under(2014, LIMITS);
+    for ([year, month, day, left], ended) in dates().zip(1..) {
+        if ended == under_2014 {
+            assert_eq!(trial.book.convert(), Ok(()));
+        }
+        assert_eq!(trial.book.open(year, month, day, left), Ok([false; 8]));
+        let rise = if ended < under_2014 { 0 } else { 198 };
+        let events = trial.rest_of_day(&[(CORN, 2, rise)]);
+        assert_eq!(events, [Event::Quiet; GROUP_COUNT]);
+    }
+    if under_2014 == 45 {
+        assert_eq!(trial.book.convert(), Ok(()));
+    }
+    assert!(trial.book.windows.iter().all(|window| window.len() == 45));
+    assert_eq!(trial.book.open(2024, 11, 1, 20), Ok([true; 8]));
+    trial.book
+}
+
+/// With n days under 2023 their sum is 45 x 6,000 and 198 x n x (n + 1) / 2 above it.
 #[test]
-fn a_window_filled_under_both_editions_gives_season_limits() {
-    let limits = season_limits_with(20);
-    assert_eq!(limits[CORN], Limits::from_initial(CORN, 440));
-    for under_2014 in [21, 44, 45] {
-        assert_eq!(season_limits_with(under_2014), limits, "{under_2014}");
+fn a_window_filled_on_either_side_gives_one_season_limit() {
+    for (under_2014, initial) in [(1, 720), (20, 520), (44, 440), (45, 440)] {
+        let book = after_a_season(under_2014);
+        let due = Limits::from_initial(CORN, initial);
+        assert_eq!(book.limits[CORN], due, "{under_2014}");
+        assert_eq!(book.limits[OATS], Limits::from_initial(OATS, 440));
+        assert!(book.windows.iter().all(Vec::is_empty));
     }
 }
