@@ -5,7 +5,7 @@ use crate::book::edition::EDITIONS;
 use crate::book::window::LARGEST_WINDOW;
 use crate::book::{Book, Level, GROUP_COUNT};
 
-const WANTED: [&str; 15] = [
+const WANTED: [&str; 13] = [
     "convert: refused 2 with one to seven sheets in",
     "convert: refused 2 with all sheets in",
     "convert: refused 2 under 2023 with an expanded group",
@@ -17,8 +17,6 @@ const WANTED: [&str; 15] = [
     "convert: carried after a refusal with 2",
     "convert: carried after a refusal with 18",
     "convert: accepted under 2023 with every group at the initial level",
-    "convert: accepted under 2023 with an expanded group",
-    "convert: accepted under 2023 with a marked group",
     "convert: again, no day opened since the book was carried",
     "convert: again, days after the book was carried",
 ];
@@ -31,12 +29,20 @@ const OF_EDITION: [&str; 4] = [
     "accepted after an end",
 ];
 
+/// How a group stands in a book under 2023 that stays as it is.
+const STANDINGS: [&str; 2] = ["expanded", "marked"];
+
 pub fn wanted() -> Vec<String> {
     let fixed = WANTED.iter().map(|what| what.to_string());
     let editions = EDITIONS
         .into_iter()
         .flat_map(|edition| OF_EDITION.map(|what| edition_key(edition, what)));
-    let groups = (0..GROUP_COUNT).flat_map(|group| [expanded_key(group), reverted_key(group)]);
+    let groups = (0..GROUP_COUNT).flat_map(|group| {
+        let kept = STANDINGS.map(|standing| kept_key(group, standing));
+        [expanded_key(group), reverted_key(group)]
+            .into_iter()
+            .chain(kept)
+    });
     fixed.chain(editions).chain(groups).collect()
 }
 
@@ -50,6 +56,10 @@ fn expanded_key(group: usize) -> String {
 
 fn reverted_key(group: usize) -> String {
     format!("convert: carried with group {group} reverted at the last end")
+}
+
+fn kept_key(group: usize, standing: &str) -> String {
+    format!("convert: accepted under 2023 with group {group} {standing}")
 }
 
 pub fn observe(coverage: &mut Coverage, seen: &Seen) {
@@ -131,16 +141,12 @@ fn observe_carried(coverage: &mut Coverage, book: &Book) {
 }
 
 fn observe_kept(coverage: &mut Coverage, book: &Book) {
-    let is_marked = book.standings.iter().any(|one| one.marked);
-    let is_expanded = book.has_expanded_group();
     let since = coverage.life.carried;
     let facts = [
         (
-            !is_expanded,
+            !book.has_expanded_group(),
             "accepted under 2023 with every group at the initial level",
         ),
-        (is_expanded, "accepted under 2023 with an expanded group"),
-        (is_marked, "accepted under 2023 with a marked group"),
         (
             since.is_some_and(|since| since.openings == 0),
             "again, no day opened since the book was carried",
@@ -152,5 +158,9 @@ fn observe_kept(coverage: &mut Coverage, book: &Book) {
     ];
     for (happened, what) in facts {
         coverage.count_if(happened, &format!("convert: {what}"));
+    }
+    for group in expanded_groups(book) {
+        let is_marked = book.standings[group].marked;
+        coverage.count(kept_key(group, STANDINGS[usize::from(is_marked)]));
     }
 }
