@@ -2,19 +2,25 @@
 
 use super::event::{self, Event};
 use super::life::Since;
+use super::seasons::Turn;
 use super::{Coverage, Seen};
 use crate::book::edition_2014;
 use crate::book::end;
+use crate::book::groups::group_of;
 use crate::book::window::LARGEST_WINDOW;
-use crate::book::{Book, Level, GROUP_COUNT, PRODUCT_COUNT};
+use crate::book::{Level, GROUP_COUNT, PRODUCT_COUNT};
 use crate::history::call::Call;
 
 /// By the day, the left, the sheets and the limits that the book had before.
-const WANTED: [&str; 11] = [
+const WANTED: [&str; 15] = [
     "book: line before a carried book's next day",
     "open: refused 4 by the day before a conversion",
     "open: refused 16 by the left before a conversion",
     "open: left smaller than before a conversion",
+    "open: first opening, after a conversion",
+    "season: next at once after a conversion, a window full",
+    "season: next at once after a conversion, none full",
+    "season: skipped at once after a conversion, a window full",
     "sheet: refused 9 by a sheet of before a conversion",
     "sheet: refused 10 by a sheet of before a conversion",
     "check: free by a sheet of before a conversion",
@@ -40,7 +46,8 @@ pub fn wanted() -> Vec<String> {
     let events = (0..GROUP_COUNT).flat_map(|group| EVENTS.map(|what| event_key(group, what)));
     let windows =
         (0..PRODUCT_COUNT).flat_map(|product| WINDOWS.map(|from| window_key(product, from)));
-    fixed.chain(events).chain(windows).collect()
+    let back = (0..GROUP_COUNT).map(back_key);
+    fixed.chain(events).chain(windows).chain(back).collect()
 }
 
 fn event_key(group: usize, what: &str) -> String {
@@ -49,6 +56,10 @@ fn event_key(group: usize, what: &str) -> String {
 
 fn window_key(product: usize, from: &str) -> String {
     format!("season: product {product} renewed by a window from {from}")
+}
+
+fn back_key(group: usize) -> String {
+    format!("season: group {group} brought back by a window from either side of a conversion")
 }
 
 /// Takes note of a call on a book that was carried.
@@ -82,14 +93,23 @@ fn observe_opening(coverage: &mut Coverage, seen: &Seen, since: &Since) {
     }
 }
 
-/// The first opening since, of the month of the last.
+/// The first opening since.
 fn observe_next(coverage: &mut Coverage, seen: &Seen) {
-    let days = [seen.before, seen.after].map(Book::last_opened);
-    if let [Some((last, _)), Some((date, _))] = days {
-        coverage.count_if(
-            date.is_in_month_of(last),
-            "open: left smaller than before a conversion",
-        );
+    let (date, _) = seen.after.last_opened().expect("a day is open");
+    let Some((last, _)) = seen.before.last_opened() else {
+        return coverage.count("open: first opening, after a conversion");
+    };
+    coverage.count_if(
+        date.is_in_month_of(last),
+        "open: left smaller than before a conversion",
+    );
+    let mut windows = seen.before.windows.iter();
+    let is_full = windows.any(|window| window.len() == LARGEST_WINDOW);
+    match (date.season() - last.season(), is_full) {
+        (1, true) => coverage.count("season: next at once after a conversion, a window full"),
+        (1, false) => coverage.count("season: next at once after a conversion, none full"),
+        (2.., true) => coverage.count("season: skipped at once after a conversion, a window full"),
+        _ => {}
     }
 }
 
@@ -98,9 +118,17 @@ fn observe_windows(coverage: &mut Coverage, seen: &Seen, since: &Since) {
     for (product, _) in renewed.filter(|(_, word)| *word == "1") {
         match since.collected[product] {
             0 => coverage.count(window_key(product, WINDOWS[0])),
-            1..LARGEST_WINDOW => coverage.count(window_key(product, WINDOWS[1])),
+            1..LARGEST_WINDOW => observe_either_side(coverage, product),
             _ => {}
         }
+    }
+}
+
+fn observe_either_side(coverage: &mut Coverage, product: usize) {
+    coverage.count(window_key(product, WINDOWS[1]));
+    let group = group_of(product);
+    if coverage.turns[group] == Turn::BroughtBack {
+        coverage.count(back_key(group));
     }
 }
 
