@@ -105,7 +105,7 @@ impl Coverage {
         match (call, &seen) {
             (Call::Found(call), _) => foundings::observe(self, call, before, answer),
             (Call::Bare(numbers), _) => checks::observe_bare(self, numbers, answer),
-            (_, None) => self.count("format: no book"),
+            (_, None) => self.observe_no_book(call),
             (Call::Open(numbers), Some(seen)) => openings::observe(self, numbers, seen),
             (Call::Sheet(sheet), Some(seen)) => sheets::observe(self, sheet, seen),
             (Call::End, Some(seen)) => ends::observe(self, seen),
@@ -117,6 +117,12 @@ impl Coverage {
             carried::observe(self, call, seen);
             self.life.note(call, seen);
         }
+    }
+
+    fn observe_no_book(&mut self, call: &Call) {
+        self.count("format: no book");
+        let is_conversion = *call == Call::Convert;
+        self.count_if(is_conversion, "format: no book to convert");
     }
 
     fn observe_book(&mut self, book: &Book) {
@@ -144,7 +150,7 @@ fn book_key(edition: u32) -> String {
     format!("book: line under {edition}")
 }
 
-const OWN: [&str; 13] = [
+const OWN: [&str; 14] = [
     "book: line before the first opening",
     "book: line on an open day",
     "book: line with sheets in",
@@ -153,6 +159,7 @@ const OWN: [&str; 13] = [
     "book: line with a full window",
     "book: line on a day that brought a group back",
     "format: no book",
+    "format: no book to convert",
     "format: not a call",
     "format: blank line",
     "format: comment",
