@@ -4,13 +4,22 @@ use super::Scenario;
 use crate::history::answer::CONVERTED;
 use crate::history::call::Call;
 use crate::testing::history::false_openings;
+use crate::testing::history::pace::Phase;
 
 impl Scenario {
-    /// Carries the book to the edition of 2023 if its day has come, before this next one.
-    pub fn convert_when_due(&mut self, next: [u32; 4]) {
-        if self.temper.converts_after != Some(self.ended) {
-            return;
+    /// A conversion before this next day, if one is due; at times one that changes nothing, before another season.
+    pub fn convert_between_days(&mut self, next: [u32; 4]) {
+        if self.temper.converts_after == Some(self.ended) {
+            return self.carry(next);
         }
+        let is_last = self.temper.pace.phase(self.ended) == Phase::Last;
+        if is_last && self.random.one_in(3) {
+            self.convert_in_vain();
+        }
+    }
+
+    /// Carries the book to the edition of 2023.
+    fn carry(&mut self, next: [u32; 4]) {
         let answer = self.convert();
         assert_eq!(answer, CONVERTED, "no group is expanded");
         if self.random.one_in(3) {

@@ -104,7 +104,7 @@ impl Scenario {
     fn day(&mut self) {
         self.stray_while_closed();
         let next = self.next_opening();
-        self.convert_when_due(next);
+        self.convert_between_days(next);
         if self.takes_chance() {
             let book = self.writer.book();
             let call = false_openings::draw(&mut self.random, book, next);
