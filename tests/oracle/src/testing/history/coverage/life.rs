@@ -18,6 +18,8 @@ pub struct Life {
     pub refused: BTreeSet<u32>,
     /// What came after the conversion that carried the book from 2014 to 2023, if one did.
     pub carried: Option<Since>,
+    /// A conversion was accepted, whether it changed the book or not, and no day has ended since.
+    pub is_converted: bool,
 }
 
 /// Since a conversion.
@@ -40,10 +42,15 @@ impl Life {
             (Call::Found(_), None) => *self = Life::default(),
             (Call::Open(_), None) => self.note_opening(seen),
             (Call::End, None) => self.note_end(seen),
-            (Call::Convert, None) if seen.before.edition == 2014 => {
-                self.carried = Some(Since::default());
-            }
+            (Call::Convert, None) => self.note_conversion(seen),
             _ => {}
+        }
+    }
+
+    fn note_conversion(&mut self, seen: &Seen) {
+        self.is_converted = true;
+        if seen.before.edition == 2014 {
+            self.carried = Some(Since::default());
         }
     }
 
@@ -58,6 +65,7 @@ impl Life {
     fn note_end(&mut self, seen: &Seen) {
         let mut words = seen.answer.split(' ').skip(1);
         self.reverted = std::array::from_fn(|_| words.next() == Some("reverted"));
+        self.is_converted = false;
         if let Some(since) = &mut self.carried {
             let (date, _) = seen.after.last_opened().expect("the day ended");
             since.ends += 1;

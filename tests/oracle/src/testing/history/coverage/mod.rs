@@ -8,6 +8,7 @@ mod ends;
 mod ends_2014;
 mod event;
 mod foundings;
+mod kept;
 mod life;
 mod openings;
 mod seasons;
@@ -115,6 +116,7 @@ impl Coverage {
         }
         if let Some(seen) = &seen {
             carried::observe(self, call, seen);
+            kept::observe(self, call, seen);
             self.life.note(call, seen);
         }
     }
@@ -179,6 +181,7 @@ pub fn wanted() -> Vec<String> {
         .chain(ends_2014::wanted())
         .chain(conversions::wanted())
         .chain(carried::wanted())
+        .chain(kept::wanted())
         .chain(coupled::wanted())
         .chain(checks::wanted())
         .chain(spans::wanted())
