@@ -20,7 +20,7 @@ use crate::noise;
 use crate::odd;
 use crate::reached::{
     Reached, ANSWERS, BACK_BY, BROUGHT_BACK, CONVERTED, ENDS, FIRST, LED_BY, NONE_FULL, OUTCOMES,
-    SAME_SEASON, SKIPPED, TURNS, UNSOUND,
+    OVER_UNSOUND, SAME_SEASON, SKIPPED, TURNS, UNSOUND,
 };
 use crate::values::wrong_values;
 
@@ -80,8 +80,10 @@ impl<'a> Run<'a> {
 
     fn change(&mut self, image: &Image, call: &Call, name: impl Fn() -> String) {
         let (compared, after) = self.comparer.change(image, call);
-        if compared.number == ACCEPTED {
-            self.note_outcome(call, image, &after);
+        match (call, compared.number) {
+            (_, ACCEPTED) => self.note_outcome(call, image, &after),
+            (Call::Convert, number) => self.reached.count_over(image, number),
+            _ => {}
         }
         self.note(name_of(call), compared, || {
             format!("{call:?} on {}", name())
@@ -166,6 +168,9 @@ impl<'a> Run<'a> {
             UNSOUND if !can_be_unsound => times == 0,
             _ => times >= LEAST,
         });
+        let over = self.reached.judge(&[OVER_UNSOUND], |_, times| {
+            !can_be_unsound || times >= LEAST
+        });
         let outcomes = self.reached.judge(&OUTCOMES, |_, times| times >= LEAST);
         // Damage seldom moves a settlement to where prices begin or end, and what it damages has all windows full or none.
         let is_enough = |_, times| can_be_unsound || times >= LEAST;
@@ -175,7 +180,13 @@ impl<'a> Run<'a> {
         let leads = self.reached.judge(&LED_BY, is_enough);
         score.one(
             &format!("{kind} reach every answer"),
-            calls.or(outcomes).or(ends).or(turns).or(back).or(leads),
+            calls
+                .or(over)
+                .or(outcomes)
+                .or(ends)
+                .or(turns)
+                .or(back)
+                .or(leads),
         );
     }
 }

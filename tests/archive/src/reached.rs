@@ -24,10 +24,20 @@ pub const ANSWERS: [Range; 7] = [
 pub const CHECK: &[u32] = &[100, 101, 102, 103, UNSOUND, 2, 5, 14, 8];
 
 /// What accepted openings and ends put in: whether a product got new limits, and a group's event. And the editions of the
-/// images that were converted.
-pub const OUTCOMES: [Range; 4] = [("renewed", &[0, 1]), EVENTS[0], EVENTS[1], CONVERTED];
+/// images that were converted, and what else applied to those with a day open.
+pub const OUTCOMES: [Range; 5] = [
+    ("renewed", &[0, 1]),
+    EVENTS[0],
+    EVENTS[1],
+    CONVERTED,
+    OVER_OPEN,
+];
 
 pub const CONVERTED: Range = ("converted from", &EDITIONS);
+
+/// The refusals of a conversion that apply beside the one it got, by the book in the image.
+pub const OVER_UNSOUND: Range = ("convert, 1 over", &[2, 18]);
+pub const OVER_OPEN: Range = ("convert, 2 over", &[18]);
 
 /// Under the editions in their order; that of 2014 raises nothing.
 pub const EVENTS: [Range; 2] = [
@@ -68,6 +78,24 @@ pub struct Reached {
 impl Reached {
     pub fn count(&mut self, what: &'static str, number: u32) {
         *self.counts.entry((what, number)).or_insert(0) += 1;
+    }
+
+    /// Counts the refusals that come after the one that a conversion got.
+    pub fn count_over(&mut self, image: &Image, number: u32) {
+        let Some(book) = image.book() else {
+            return;
+        };
+        let (what, _) = match number {
+            UNSOUND => OVER_UNSOUND,
+            _ => OVER_OPEN,
+        };
+        let is_expanded = book.edition == 2014 && book.has_expanded_group();
+        let rows = [(2, book.is_open), (18, is_expanded)];
+        for (row, applies) in rows {
+            if applies && row > number {
+                self.count(what, row);
+            }
+        }
     }
 
     /// Counts the events that an end put into an image.
