@@ -20,6 +20,7 @@ use side::{Agreed, Side};
 /// The edition of a founding, and whether the book is carried to that of 2023.
 type Course = (u32, bool);
 
+/// Each edition alone has two, since its events have to be reached in several pairs that are not carried.
 const COURSES: [Course; 5] = [
     (2014, false),
     (2023, false),
