@@ -315,3 +315,19 @@ fn a_difference_in_the_group_is_seen() {
     };
     assert!(!is_seen(second) && is_seen(&other) && is_seen(""));
 }
+
+#[test]
+fn a_conversion_on_one_side_alone_is_seen() {
+    let mut carried = pairs(0).iter();
+    let carried = carried.find(|answered| answered.texts()[0].contains("\nconverted\n"));
+    let answered = carried.expect("a pair is converted");
+    let [first, second] = answered.texts();
+    for (told, other) in [
+        ("\nconverted\n", "\nrefused 18\n"),
+        (" edition=2023", " edition=2014"),
+    ] {
+        let second = second.replacen(told, other, 1);
+        let outputs = [first, &second].map(str::as_bytes);
+        assert!(answered.pair.difference(outputs).is_some(), "{told}");
+    }
+}
