@@ -54,6 +54,9 @@ fn this_implementation_keeps_groups_apart() {
 /// In so many pairs of each group a thing is reached, so that no single draw decides whether it is.
 const SEVERAL: usize = 3;
 
+/// The first word of an accepted opening.
+const OPENED: &str = "opened";
+
 /// Under either edition.
 const WANTED: [(Kind, &str); 8] = [
     (Kind::Ended, "quiet"),
@@ -172,7 +175,7 @@ fn both_sides_are_under_the_pairs_edition_and_several_are_carried() {
 /// The openings, ends and conversions that a side accepted, in their order.
 fn course(answers: &str) -> Vec<&str> {
     let words = answers.lines().filter_map(|line| line.split(' ').next());
-    let accepted = words.filter(|word| ["opened", "ended", CONVERTED].contains(word));
+    let accepted = words.filter(|word| [OPENED, "ended", CONVERTED].contains(word));
     accepted.collect()
 }
 
@@ -191,24 +194,50 @@ fn both_sides_accept_conversions_at_the_same_places() {
 }
 
 #[test]
-fn some_pairs_of_each_group_are_raised_after_they_are_carried() {
+fn several_pairs_of_each_group_are_raised_after_they_are_carried() {
     let raised = (RAISED.0, RAISED.1.to_string());
     for group in 0..GROUP_COUNT {
         let is_carried = |answered: &&Answered| answered.pair.converts_after.is_some();
-        let mut carried = pairs(group).iter().filter(is_carried);
-        let is_raised = |answered: &Answered| reached(answered).contains(&raised);
-        assert!(carried.any(is_raised), "group {group}");
+        let carried = pairs(group).iter().filter(is_carried);
+        let is_raised = |answered: &&Answered| reached(answered).contains(&raised);
+        let times = carried.filter(is_raised).count();
+        assert!(times >= SEVERAL, "group {group}: {times}");
     }
 }
 
-/// An accepted opening, and where the groups stood before and after it.
-struct Opened {
+/// The part of a group in each book that a side shows.
+fn books(side: &str, group: usize) -> Vec<Option<String>> {
+    let books = side.lines().filter(|line| line.starts_with("book "));
+    books
+        .map(|line| view::part(Kind::Book, group, line))
+        .collect()
+}
+
+#[test]
+fn several_pairs_of_each_group_are_founded_alike_and_differ_in_every_other_group() {
+    for group in 0..GROUP_COUNT {
+        let is_wanted = |answered: &&Answered| {
+            let sides = answered.pair.sides.each_ref();
+            let [founding, other] = sides.map(|side| lines(&side.text)[0]);
+            let [first, second] = answered.texts();
+            let differs = |other| books(first, other) != books(second, other);
+            founding == other
+                && first.contains(CONVERTED)
+                && (0..GROUP_COUNT).all(|other| differs(other) == (other != group))
+        };
+        let times = pairs(group).iter().filter(is_wanted).count();
+        assert!(times >= SEVERAL, "group {group}: {times}");
+    }
+}
+
+/// An accepted call, and where the groups stood before and after it.
+struct Accepted {
     answer: String,
     before: [Standing; GROUP_COUNT],
     after: [Standing; GROUP_COUNT],
 }
 
-impl Opened {
+impl Accepted {
     fn renews(&self, group: usize) -> bool {
         let renewed = view::part(Kind::Opened, group, &self.answer);
         renewed.is_some_and(|renewed| renewed.contains('1'))
@@ -225,35 +254,36 @@ impl Opened {
     }
 }
 
-fn openings(side: &Side) -> Vec<Opened> {
+/// The calls of a side that were answered with a word.
+fn accepted(side: &Side, word: &str) -> Vec<Accepted> {
     let mut book: Option<Book> = None;
-    let mut openings = Vec::new();
+    let mut accepted = Vec::new();
     for line in lines(&side.text) {
         let before = book.as_ref().map(|book| book.standings);
         let answer = answer::answer_line(&mut book, line).expect("every line is a call");
-        if answer.starts_with("opened") {
-            openings.push(Opened {
+        if answer.starts_with(word) {
+            accepted.push(Accepted {
                 answer,
                 before: before.expect("a book was founded"),
                 after: book.as_ref().expect("a book was founded").standings,
             });
         }
     }
-    openings
+    accepted
 }
 
-/// Whether some opening is wanted as the two sides made it.
-fn has_opening(pair: &Pair, is_wanted: impl Fn(&Opened, &Opened) -> bool) -> bool {
-    let [first, second] = pair.sides.each_ref().map(openings);
-    assert_eq!(first.len(), second.len(), "the sides agree on openings");
+/// Whether some call that was answered with a word is wanted as the two sides made it.
+fn has_accepted(pair: &Pair, word: &str, is_wanted: impl Fn(&Accepted, &Accepted) -> bool) -> bool {
+    let [first, second] = pair.sides.each_ref().map(|side| accepted(side, word));
+    assert_eq!(first.len(), second.len(), "the sides agree on {word}");
     let mut both = first.iter().zip(&second);
     both.any(|(first, second)| is_wanted(first, second))
 }
 
-fn assert_several(group: usize, is_wanted: impl Fn(&Opened, &Opened) -> bool) {
+fn assert_several(group: usize, word: &str, is_wanted: impl Fn(&Accepted, &Accepted) -> bool) {
     let mut times = 0;
     for answered in pairs(group) {
-        times += usize::from(has_opening(&answered.pair, &is_wanted));
+        times += usize::from(has_accepted(&answered.pair, word, &is_wanted));
     }
     assert!(times >= SEVERAL, "group {group}: {times}");
 }
@@ -261,7 +291,7 @@ fn assert_several(group: usize, is_wanted: impl Fn(&Opened, &Opened) -> bool) {
 #[test]
 fn several_pairs_of_each_group_bring_it_back() {
     for group in 0..GROUP_COUNT {
-        assert_several(group, |first, second| {
+        assert_several(group, OPENED, |first, second| {
             first.brings_back(group) && second.brings_back(group)
         });
     }
@@ -271,10 +301,21 @@ fn several_pairs_of_each_group_bring_it_back() {
 fn several_pairs_of_each_group_keep_it_expanded_while_one_side_renews_others() {
     for group in 0..GROUP_COUNT {
         let others = || (0..GROUP_COUNT).filter(|&other| other != group);
-        let renews_others = |side: &Opened| others().any(|other| side.renews(other));
-        assert_several(group, |first, second| {
+        let renews_others = |side: &Accepted| others().any(|other| side.renews(other));
+        assert_several(group, OPENED, |first, second| {
             let is_kept = first.keeps_expanded(group) && second.keeps_expanded(group);
             is_kept && renews_others(first) != renews_others(second)
+        });
+    }
+}
+
+#[test]
+fn several_pairs_of_each_group_are_converted_while_others_stand_apart() {
+    for group in 0..GROUP_COUNT {
+        assert_several(group, CONVERTED, |first, second| {
+            let apart = |other: usize| first.before[other].level != second.before[other].level;
+            let is_expanded = first.before[group].level == Level::Expanded;
+            is_expanded && !apart(group) && (0..GROUP_COUNT).any(apart)
         });
     }
 }
