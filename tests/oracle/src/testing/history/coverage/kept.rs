@@ -46,9 +46,15 @@ fn observe_opened(coverage: &mut Coverage, seen: &Seen) {
     for group in 0..GROUP_COUNT {
         let is_marked = seen.before.standings[group].marked;
         match (coverage.turns[group], is_marked) {
-            (Turn::BroughtBack, false) => coverage.count(WANTED[3]),
-            (Turn::BroughtBack, true) => coverage.count(WANTED[4]),
-            (Turn::KeptNext, true) => coverage.count(WANTED[5]),
+            (Turn::BroughtBack, false) => {
+                coverage.count("season: group brought back, expanded before a conversion");
+            }
+            (Turn::BroughtBack, true) => {
+                coverage.count("season: group brought back, marked before a conversion");
+            }
+            (Turn::KeptNext, true) => {
+                coverage.count("season: group kept, marked before a conversion");
+            }
             _ => {}
         }
     }
