@@ -46,7 +46,7 @@ static const struct library ORACLE = {
 /* Every product trades these. */
 static const uint32_t MONTHS[] = {3, 5, 7, 9};
 
-/* A book with full windows and sheets of 16: after an end, the same under 2014, with the next day open, and with all sheets in. */
+/* A book with full windows and sheets of 16: after an end, the same under 2014, with the next day open, with all sheets in. */
 static botskhela_book ended, ended_2014, opened, filed;
 
 static uint32_t months[CONTRACTS];
