@@ -17,7 +17,7 @@ use Rattle.record.specs.Replay.{common_after, over, product_with, group_with, gr
 use Rattle.record.specs.Theorems.{after, history_of}
 use Rattle.record.proofs.Maps.{map-map, map_same}
 use Rattle.record.proofs.Cleared.{accepted_clear}
-use Rattle.record.proofs.Kept.{add_unless, history_from, history_kept}
+use Rattle.record.proofs.Kept.{add_unless, judged_history, history_from, history_kept}
 
 -- no sheet: nothing changes
 with_none : (g : Group) → group_with [] g ≡ g
@@ -100,32 +100,28 @@ module _ (r₀ : Record) (f : IsFresh r₀) where
   accept_end (a_conversion ∷ es) o = cc
   accept_end (a_day k ∷ es) o = end_on r₀ k.day k.sheets k.is_ended es o
 
-  accepted : (c : Change) (es : List Entry) → refusal (replay es r₀) (change c) ≡ None → next (replay es r₀) c ≡ replay (add c es) r₀
+  accept_change : (c : Change) (es : List Entry) → refusal (replay es r₀) (change c) ≡ None → next (replay es r₀) c ≡ replay (add c es) r₀
   unfolding tests conversion_tests replay
-  accepted (opening d) es e = accept_opening r₀ d es
-  accepted (sheet p ms ss) es e = accept_sheet p ms ss es (not-false _ (accepted_clear (replay es r₀) (change (sheet p ms ss)) e).1.0)
-  accepted end es e = accept_end es (not-false _ (accepted_clear (replay es r₀) (change end) e).1.0)
-  accepted convert es e = accept_convert r₀ es (accepted_clear (replay es r₀) (change convert) e).1.0
+  accept_change (opening d) es e = accept_opening r₀ d es
+  accept_change (sheet p ms ss) es e = accept_sheet p ms ss es (not-false _ (accepted_clear (replay es r₀) (change (sheet p ms ss)) e).1.0)
+  accept_change end es e = accept_end es (not-false _ (accepted_clear (replay es r₀) (change end) e).1.0)
+  accept_change convert es e = accept_convert r₀ es (accepted_clear (replay es r₀) (change convert) e).1.0
 
   stepped : (c : Call) (es : List Entry)
-      → (respond (replay es r₀) c).state ≡ replay (add_unless (refusal (replay es r₀) c) c es) r₀
+      → (respond (replay es r₀) c).state ≡ replay (judged_history (replay es r₀) c es) r₀
   unfolding respond
   stepped (change c) es = go (refusal (replay es r₀) (change c)) refl
     where
-      go : (o : Option ℕ) → refusal (replay es r₀) (change c) ≡ o → next_by o (replay es r₀) c ≡ replay (add_unless o (change c) es) r₀
+      go : (o : Option ℕ) → refusal (replay es r₀) (change c) ≡ o → next_by o (replay es r₀) c ≡ replay (add_unless o c es) r₀
       go (Some n) e = refl
-      go None e = accepted c es e
-  stepped (question q) es = go (refusal (replay es r₀) (question q))
-    where
-      go : (o : Option ℕ) → replay es r₀ ≡ replay (add_unless o (question q) es) r₀
-      go (Some n) = refl
-      go None = refl
+      go None e = accept_change c es e
+  stepped (question q) es = refl
 
   replayed_from : (es : List Entry) (cs : List Call)
       → state_after (replay es r₀) cs ≡ replay (history_from es (replay es r₀) cs) r₀
   unfolding state_after history_from
   replayed_from es [] = refl
-  replayed_from es (c ∷ cs) = rw (stepped c es) (replayed_from (add_unless (refusal (replay es r₀) c) c es) cs)
+  replayed_from es (c ∷ cs) = rw (stepped c es) (replayed_from (judged_history (replay es r₀) c es) cs)
 
   nothing_yet : replay [] r₀ ≡ r₀
   unfolding replay group_after

@@ -1,4 +1,4 @@
--- The history of a list of calls: what was accepted, latest first, read off the calls and the answers alone.
+-- The history of a list of calls: the accepted changes, latest first, read off the calls and the answers alone.
 use Rattle.std.specs.Prelude.{ℕ, Bool, true, false, cond, List, [], ◌∷◌, map, ◌≡◌, eqb, get_or, Option, Some, None}
 use Rattle.record.specs.State.{Day, Sheet, group_table}
 use Rattle.record.specs.Sheet.{contracts}
@@ -36,16 +36,20 @@ add (sheet p ms ss) es = with_sheet (record { product = p; sheet = contracts ms 
 add end es = with_end es
 add convert es = a_conversion ∷ es
 
--- a refused call adds nothing, and a question neither
-abbrev pub add_by : Answer → Call → List Entry → List Entry
+-- a refused change adds nothing
+abbrev pub add_by : Answer → Change → List Entry → List Entry
 add_by (refused n) c es = es
-add_by (accepted a) (change c) es = add c es
-add_by (accepted a) (question q) es = es
+add_by (accepted a) c es = add c es
+
+-- a question adds nothing
+abbrev pub history_by : Answer → Call → List Entry → List Entry
+history_by a (change c) es = add_by a c es
+history_by a (question q) es = es
 
 unfoldable pub kept_from : List Entry → List Call → List Answer → List Entry
 kept_from es [] as' = es
 kept_from es (c ∷ cs) [] = es
-kept_from es (c ∷ cs) (a ∷ as') = kept_from (add_by a c es) cs as'
+kept_from es (c ∷ cs) (a ∷ as') = kept_from (history_by a c es) cs as'
 
 abbrev pub kept : List Call → List Answer → List Entry
 kept cs as' = kept_from [] cs as'
