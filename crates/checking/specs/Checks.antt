@@ -10,6 +10,10 @@ use Rattle.book.specs.Calls.{answer_as}
 abbrev pub checked_as : Result Verdict Refusal → Answer
 checked_as r = answer_as checked r
 
+-- what the Record of the book answers to a check
+abbrev pub book_answer : Book → ℕ → ℕ → ℕ → ℕ → Answer
+book_answer b p size month price = ask (view b) (check p size month price)
+
 -- The answer is the Record's. The book is lent to read only, and stays as it is.
 abbrev pub Checks : Book → ℕ → ℕ → ℕ → ℕ → Result Verdict Refusal → Type 0
-Checks b p size month price r = checked_as r ≡ ask (view b) (check p size month price)
+Checks b p size month price r = checked_as r ≡ book_answer b p size month price

@@ -26,7 +26,7 @@ use Rattle.history.specs.Trace.{Trace, done, more}
 use Rattle.history.proofs.Agrees as agrees
 use Rattle.image.specs.Image.{is_image, book_in}
 use Rattle.image.specs.Answers.{renewed_in, events_in}
-use Rattle.gateway.specs.Calls.{answer_number, renewed_after, events_after, answer_to, RespondsImage, answer_span, with_span, image_check, no_renewed, no_events}
+use Rattle.gateway.specs.Calls.{answer_number, renewed_after, events_after, answer_to, image_answer, RespondsImage, answer_span, with_span, image_check, no_renewed, no_events}
 use Rattle.gateway.specs.declared.spans.Spanned.{Spanned}
 use Rattle.gateway.specs.Images.{Seen, sees, seen_of, ImageStep, changes, checks, spans, ImageRun, ResentImage, WholeImages, NoImage}
 use Rattle.gateway.proofs.Numbers.{number_of, accepted_by}
@@ -42,42 +42,45 @@ module _ (v : Verdict) (l : List ℕ) where
   keeps_events (Some n) = refl
   keeps_events None = refl
 
-record Stepped (ws : List ℕ) (c : Call) (n : ℕ) (now : List ℕ) : Type 0 where
-  number : n ≡ answer_number (answer_to ws c)
+record Stepped (ws : List ℕ) (c : Call) (v : Seen) (now : List ℕ) : Type 0 where
+  seen : v ≡ sees (answer_number (answer_to ws c)) now
   state : view (book_in now) ≡ (respond (view (book_in ws)) c).state
   renewed : renewed_in now ≡ renewed_after (answer_to ws c) (renewed_in ws)
   events : events_in now ≡ events_after (answer_to ws c) (events_in ws)
 
-changed : {ws now : List ℕ} {c : Change} {n : ℕ} → RespondsImage ws c n now → Stepped ws (change c) n now
-changed r = record { number = r.number; state = r.state; renewed = r.renewed; events = r.events }
+changed : (ws now : List ℕ) (c : Change) (n : ℕ) → RespondsImage ws c n now → Stepped ws (change c) (sees n now) now
+changed ws now c n r = record { seen = ap (λ n. sees n now) r.number; state = r.state; renewed = r.renewed; events = r.events }
 
 asked : (ws : List ℕ) (p size month price n : ℕ) → n ≡ image_check ws p size month price
-    → Stepped ws (question (check p size month price)) n ws
+    → Stepped ws (question (check p size month price)) (sees n ws) ws
 unfolding respond answer
 asked ws p size month price n e =
     let r = refusal (view (book_in ws)) (question (check p size month price)) in
-    record { number = e; state = refl; renewed = keeps_renewed _ (renewed_in ws) r; events = keeps_events _ (events_in ws) r }
+    record { seen = ap (λ n. sees n ws) e; state = refl; renewed = keeps_renewed _ (renewed_in ws) r; events = keeps_events _ (events_in ws) r }
+
+stepped : {ws now : List ℕ} {c : Call} {v : Seen} → ImageStep ws c v now → Stepped ws c v now
+stepped (changes n r) = changed _ _ _ n r
+stepped (checks n e) = asked _ _ _ _ _ n e
+stepped (spans r e) = asked _ _ _ _ _ r.answer (ap (λ (r : Spanned). r.answer) e)
 
 -- ---- one list
 record Follows (ws : List ℕ) (cs : List Call) (vs : List Seen) (z : List ℕ) : Type 0 where
   seen : vs ≡ seen_of (renewed_in ws) (events_in ws) (answers (view (book_in ws)) cs)
   contents : view (book_in z) ≡ state_after (view (book_in ws)) cs
 
-one_more : {ws now z : List ℕ} {c : Call} {n : ℕ} {cs : List Call} {vs : List Seen}
-    → Stepped ws c n now → Follows now cs vs z → Follows ws (c ∷ cs) (sees n now ∷ vs) z
+one_more : {ws now z : List ℕ} {c : Call} {v : Seen} {cs : List Call} {vs : List Seen}
+    → Stepped ws c v now → Follows now cs vs z → Follows ws (c ∷ cs) (v ∷ vs) z
 unfolding answers state_after seen_of
-one_more {ws} {now} {z} {c} {n} {cs} {vs} r f =
+one_more {ws} {now} {z} {c} {v} {cs} {vs} r f =
     record {
-      seen = rw (← r.state, ← r.renewed, ← r.events, ← r.number) (ap (λ l. sees n now ∷ l) f.seen);
+      seen = rw (r.seen, ← r.state, ← r.renewed, ← r.events) (ap (λ l. sees (answer_number (answer_to ws c)) now ∷ l) f.seen);
       contents = rw (← r.state) f.contents;
     }
 
 follows : {ws z : List ℕ} {cs : List Call} {vs : List Seen} → Trace ImageStep ws cs vs z → Follows ws cs vs z
 unfolding answers state_after seen_of
 follows done = record { seen = refl; contents = refl }
-follows (more (changes n r) t) = one_more (changed r) (follows t)
-follows (more (checks n e) t) = one_more (asked _ _ _ _ _ n e) (follows t)
-follows (more (spans r e) t) = one_more (asked _ _ _ _ _ r.answer (ap (λ (r : Spanned). r.answer) e)) (follows t)
+follows (more s t) = one_more (stepped s) (follows t)
 
 module _ (s : Start) (cs : List Call) (vs : List Seen) (z : List ℕ) (run : ImageRun s cs vs z) where
   is_founded : founding_refusal s ≡ None
@@ -97,13 +100,13 @@ module _ (s : Start) (cs : List Call) (vs : List Seen) (z : List ℕ) (run : Ima
 
   -- a verdict with a span, sent again at its ends
   module _ (p size month price : ℕ) where
-    at_ends : (v : Verdict) (a : Span) → answer_to z (question (check p size month price)) ≡ accepted (checked v) → span_in v ≡ Some a
+    at_ends : (v : Verdict) (a : Span) → image_answer z p size month price ≡ accepted (checked v) → span_in v ≡ Some a
         → ResentImage z p size month (with_span (accepted (checked (Within a))))
     at_ends v a e has =
         let r = agrees.resent s cs (book_in z) contents_are p size month price v a e has in
         record { at_lowest = ap with_span r.at_lowest; at_highest = ap with_span r.at_highest }
 
-    resends : (a : Answer) → answer_to z (question (check p size month price)) ≡ a → 0 < (answer_span a).lowest → ResentImage z p size month (with_span a)
+    resends : (a : Answer) → image_answer z p size month price ≡ a → 0 < (answer_span a).lowest → ResentImage z p size month (with_span a)
     resends (refused n) e l = absurd (omega arith)
     resends (accepted (opened b)) e l = absurd (omega arith)
     resends (accepted filed) e l = absurd (omega arith)
@@ -137,7 +140,7 @@ module _ (s : Start) (g : ℕ) (cs ds : List Call) (us vs : List Seen) (y z : Li
   same_group : group_at (view (book_in y)) g ≡ group_at (view (book_in z)) g
   same_group = agrees.same_group s g cs ds (book_in y) (book_in z) (contents_are s cs us y one) (contents_are s ds vs z other) same
 
-  same_answers : (p size month price : ℕ) → group_of p ≡ g → answer_to y (question (check p size month price)) ≡ answer_to z (question (check p size month price))
+  same_answers : (p size month price : ℕ) → group_of p ≡ g → image_answer y p size month price ≡ image_answer z p size month price
   same_answers =
       agrees.same_checks s g cs ds (book_in y) (book_in z) (contents_are s cs us y one) (contents_are s ds vs z other) same (is_founded s cs us y one)
 

@@ -63,23 +63,17 @@ module _ (ws : List ℕ) (c : Change) (a : Accepted) (z : Book) (r : Responds (b
   sound_after : is_sound (view z) ≡ true
   sound_after = rw r.state (respond_sound (view (book_in ws)) (change c) sound_before)
 
-  -- the words that hold the book after it, and its answers beside it
-  pub holding_image : (now : List ℕ) → answer_number (accepted a) ≡ 0 → book_in now ≡ z
-      → renewed_in now ≡ renewed_after (accepted a) (renewed_in ws) → events_in now ≡ events_after (accepted a) (events_in ws)
-      → RespondsImage ws c 0 now
-  holding_image now zero is rs-are es-are =
-      record {
-        number = sym zero ∙ ap answer_number r.answer;
-        state = ap view is ∙ r.state;
-        renewed = rs-are ∙ ap (λ a. renewed_after a (renewed_in ws)) r.answer;
-        events = es-are ∙ ap (λ a. events_after a (events_in ws)) r.answer;
-        unchanged = λ m e. cc (not_refused, e);
-      }
-
   pub accepted_image : (now : List ℕ) → answer_number (accepted a) ≡ 0
       → Put z (renewed_after (accepted a) (renewed_in ws)) (events_after (accepted a) (events_in ws)) now
       → RespondsImage ws c 0 now
-  accepted_image now zero p = holding_image now zero (p.book sound_after) p.renewed p.events
+  accepted_image now zero p =
+      record {
+        number = sym zero ∙ ap answer_number r.answer;
+        state = ap view (p.book sound_after) ∙ r.state;
+        renewed = p.renewed ∙ ap (λ a. renewed_after a (renewed_in ws)) r.answer;
+        events = p.events ∙ ap (λ a. events_after a (events_in ws)) r.answer;
+        unchanged = λ m e. cc (not_refused, e);
+      }
 
 -- what is written of such a change, where putting leaves what the answer a.now says
 module _ {A : Type 0} (gives : A → Accepted) (ws : List ℕ) (c : Change) (z : Book) (post : MutBor (List ℕ) → Bor A → MutBor (List ℕ) → Type 0)

@@ -13,11 +13,10 @@ use Rattle.grain.specs.Bare.{bare_answer, bare_check, checked_number}
 use Rattle.grain.specs.declared.check.Verdict.{Verdict}
 use Rattle.grain.specs.declared.refusals.Refusal.TheVariants.{NoSuchProduct, BadPrice, UnfitAmount}
 use Rattle.grain.specs.declared.check.Verdict.TheVariants.{Free, Within, Below, Above}
-use Rattle.record.specs.Record.{check, question}
 use Rattle.tally.specs.Tally.{tally_full}
 use Rattle.tallying.proofs.BookAnswers.{book-counted}
 use Rattle.image.specs.Image.{book_in}
-use Rattle.gateway.specs.Calls.{answer_to, image_check}
+use Rattle.gateway.specs.Calls.{image_answer, image_check}
 use Rattle.gateway.proofs.Numbers.{number_of}
 
 pub bare_not_full : (product size settlement amount spot price : ℕ) → eqb (bare_check product size settlement amount spot price) tally_full ≡ false
@@ -37,4 +36,4 @@ bare_not_full product size settlement amount spot price =
 
 pub image_not_full : (ws : List ℕ) (p size month price : ℕ) → eqb (image_check ws p size month price) tally_full ≡ false
 image_not_full ws p size month price =
-    number_of tally_full (omega arith) (omega arith) (answer_to ws (question (check p size month price))) ∙ book-counted (book_in ws) p size month price
+    number_of tally_full (omega arith) (omega arith) (image_answer ws p size month price) ∙ book-counted (book_in ws) p size month price

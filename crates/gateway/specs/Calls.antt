@@ -59,9 +59,13 @@ pub record ConvertsImage (ws : List ℕ) (n : ℕ) (now : List ℕ) : Type 0 whe
   pub responds : RespondsImage ws convert n now
   pub same : (book_in ws).edition ≡ 2023 → now ≡ ws
 
+-- what the Record of the book in the words answers to a check
+abbrev pub image_answer : List ℕ → ℕ → ℕ → ℕ → ℕ → Answer
+image_answer ws p size month price = answer_to ws (question (check p size month price))
+
 -- the number that a check returns, which is lent the words to read only
 abbrev pub image_check : List ℕ → ℕ → ℕ → ℕ → ℕ → ℕ
-image_check ws p size month price = answer_number (answer_to ws (question (check p size month price)))
+image_check ws p size month price = answer_number (image_answer ws p size month price)
 
 -- the span of an answer, two zeros where it has none
 abbrev pub answer_span : Answer → Span
@@ -77,7 +81,7 @@ with_span a = record { answer = answer_number a; lowest = (answer_span a).lowest
 
 -- what a check with its span returns
 abbrev pub image_span : List ℕ → ℕ → ℕ → ℕ → ℕ → Spanned
-image_span ws p size month price = with_span (answer_to ws (question (check p size month price)))
+image_span ws p size month price = with_span (image_answer ws p size month price)
 
 abbrev pub no_renewed : List ℕ
 no_renewed = replicate product_count 0

@@ -17,7 +17,7 @@ use Rattle.history.specs.Trace.{Trace}
 use Rattle.history.specs.Whole.{SameContents}
 use Rattle.image.specs.Image.{is_image, book_in}
 use Rattle.image.specs.Answers.{renewed_in, events_in}
-use Rattle.gateway.specs.Calls.{answer_number, renewed_after, events_after, answer_to, RespondsImage, image_check, with_span, image_span, no_renewed, no_events, FoundsImage}
+use Rattle.gateway.specs.Calls.{answer_number, renewed_after, events_after, image_answer, RespondsImage, image_check, with_span, image_span, no_renewed, no_events, FoundsImage}
 use Rattle.gateway.specs.declared.spans.Spanned.{Spanned}
 
 -- what a C program sees of a call: the number that it returns, and what then stands in renewed and events
@@ -36,7 +36,7 @@ seen_of rs es (a ∷ l) =
     record { number = answer_number a; renewed = renewed_after a rs; events = events_after a es }
     ∷ seen_of (renewed_after a rs) (events_after a es) l
 
--- One call on an image: what its contract says, and no more.
+-- One call on an image, by its contract; a conversion's says more, of the words of a book under 2023 (ConvertsImage).
 pub data ImageStep : List ℕ → Call → Seen → List ℕ → Type 0 where
   changes : {ws now : List ℕ} {c : Change} (n : ℕ) → RespondsImage ws c n now → ImageStep ws (change c) (sees n now) now
   checks : {ws : List ℕ} {p size month price : ℕ} (n : ℕ)
@@ -75,7 +75,7 @@ pub record WholeImages : Type 0 where
   pub coupled : (s : Start) (cs : List Call) (vs : List Seen) (z : List ℕ) → ImageRun s cs vs z
       → (p q i j m n x y : ℕ) (v w : Verdict) → group_of p ≡ group_of q
       → BetweenLimits (view (book_in z)) p m x → BetweenLimits (view (book_in z)) q n y
-      → answer_to z (question (check p i m x)) ≡ accepted (checked v) → answer_to z (question (check q j n y)) ≡ accepted (checked w) → is_within v ≡ is_within w
+      → image_answer z p i m x ≡ accepted (checked v) → image_answer z q j n y ≡ accepted (checked w) → is_within v ≡ is_within w
   -- a span that a check shows can be sent again
   pub resent : (s : Start) (cs : List Call) (vs : List Seen) (z : List ℕ) → ImageRun s cs vs z
       → (p size month price : ℕ) → 0 < (image_span z p size month price).lowest
@@ -84,9 +84,9 @@ pub record WholeImages : Type 0 where
   pub stays_free :
       (s : Start) (cs ds : List Call) (us vs : List Seen) (y z : List ℕ) → ImageRun s cs us y → ImageRun s (cs ++ ds) vs z
       → (p q i j month x w : ℕ) (v : Verdict)
-      → answer_to y (question (check p i month x)) ≡ accepted (checked Free) → answer_to z (question (check q j month w)) ≡ accepted (checked v) → v ≡ Free
-  -- two lists with the same edition and founding limits that agree on the accepted openings, ends and conversions and on one group's sheets of each day:
-  -- the same day is open after both, or none
+      → image_answer y p i month x ≡ accepted (checked Free) → image_answer z q j month w ≡ accepted (checked v) → v ≡ Free
+  -- two lists of one founding edition and one set of founding limits that agree on the accepted openings, ends and conversions and on one
+  -- group's sheets of each day: the same day is open after both, or none, and the edition is the same
   pub same_day :
       (s : Start) (g : ℕ) (cs ds : List Call) (us vs : List Seen) (y z : List ℕ) → ImageRun s cs us y → ImageRun s ds vs z
       → SameFor g (history_of s cs) (history_of s ds) → (view (book_in y)).common ≡ (view (book_in z)).common

@@ -1,4 +1,4 @@
--- What the one function that writes for all calls that may change the book leaves, whatever it is given to write.
+-- What the one function that writes for a founding, an opening, a sheet and an end leaves, whatever it is given to write.
 -- For that function alone: what each call promises is in Calls.antt.
 use Rattle.std.specs.Prelude.{ℕ, ◌≡◌, List, Result, Ok, Err}
 use Rattle.std.specs.Borrow.{Bor, MutBor}

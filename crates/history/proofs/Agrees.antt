@@ -6,7 +6,7 @@ use Rattle.grain.specs.declared.check.Verdict.{Verdict}
 use Rattle.grain.specs.declared.check.Verdict.TheVariants.{Free}
 use Rattle.record.specs.State.{Product, Group, Record, group_of, group_at}
 use Rattle.record.specs.Founding.{Start, founding_refusal}
-use Rattle.record.specs.Record.{check, Call, checked, Answer, accepted, ask}
+use Rattle.record.specs.Record.{check, Call, checked, accepted, ask}
 use Rattle.record.specs.History.{SameFor}
 use Rattle.record.specs.Theorems.{after, history_of, Together, BetweenLimits, Resent}
 use Rattle.record.proofs.Proved.{theorems}
@@ -14,6 +14,7 @@ use Rattle.record.proofs.GroupTable.{group_small}
 use Rattle.book.specs.declared.Book.{Book}
 use Rattle.book.specs.Book.{view_group, view_common, view, view_held}
 use Rattle.book.proofs.Views.{group_is, product_is}
+use Rattle.checking.specs.Checks.{book_answer}
 use Rattle.history.specs.Whole.{SameProduct, SameContents}
 
 -- ---- what a book holds, part by part
@@ -42,13 +43,9 @@ same_contents z r e =
       products = λ p l. rw (← e) (product_same z p l);
     }
 
--- what the Record of a book answers to a check
-abbrev answer_in : Book → ℕ → ℕ → ℕ → ℕ → Answer
-answer_in z p size month price = ask (view z) (check p size month price)
-
 -- ---- one book
 module _ (s : Start) (cs : List Call) (z : Book) (is : view z ≡ after s cs) where
-  answered : (p size month price : ℕ) → ask (after s cs) (check p size month price) ≡ answer_in z p size month price
+  answered : (p size month price : ℕ) → ask (after s cs) (check p size month price) ≡ book_answer z p size month price
   answered p size month price = ap (λ (r : Record). ask r (check p size month price)) (sym is)
 
   pub compared : SameContents z (after s cs)
@@ -59,20 +56,20 @@ module _ (s : Start) (cs : List Call) (z : Book) (is : view z ≡ after s cs) wh
 
   pub coupled : (p q i j m n x y : ℕ) (v w : Verdict) → group_of p ≡ group_of q
       → BetweenLimits (view z) p m x → BetweenLimits (view z) q n y
-      → answer_in z p i m x ≡ accepted (checked v) → answer_in z q j n y ≡ accepted (checked w) → is_within v ≡ is_within w
+      → book_answer z p i m x ≡ accepted (checked v) → book_answer z q j n y ≡ accepted (checked w) → is_within v ≡ is_within w
   coupled p q i j m n x y v w e a b h k =
       theorems.coupled s cs p q i j m n x y v w e (rw (← is) a) (rw (← is) b) (answered p i m x ∙ h) (answered q j n y ∙ k)
 
-  pub resent : (p size month price : ℕ) (v : Verdict) (allowed : Span) → answer_in z p size month price ≡ accepted (checked v)
+  pub resent : (p size month price : ℕ) (v : Verdict) (allowed : Span) → book_answer z p size month price ≡ accepted (checked v)
       → span_in v ≡ Some allowed → Resent (view z) p size month allowed
   resent p size month price v allowed e has =
       rw is (theorems.resent s cs p size month price v allowed (answered p size month price ∙ e) has)
 
 -- ---- a book, and one after further calls
 pub stays_free : (s : Start) → founding_refusal s ≡ None → (cs ds : List Call) (y z : Book) → view y ≡ after s cs → view z ≡ after s (cs ++ ds)
-    → (p q i j month x w : ℕ) (v : Verdict) → answer_in y p i month x ≡ accepted (checked Free) → answer_in z q j month w ≡ accepted (checked v) → v ≡ Free
-stays_free s founds cs ds y z one other p q i j month x w v e h =
-    theorems.stays_free s founds cs ds p q i j month x w v (answered s cs y one p i month x ∙ e) (answered s (cs ++ ds) z other q j month w ∙ h)
+    → (p q i j month x w : ℕ) (v : Verdict) → book_answer y p i month x ≡ accepted (checked Free) → book_answer z q j month w ≡ accepted (checked v) → v ≡ Free
+stays_free s is_founded cs ds y z one other p q i j month x w v e h =
+    theorems.stays_free s is_founded cs ds p q i j month x w v (answered s cs y one p i month x ∙ e) (answered s (cs ++ ds) z other q j month w ∙ h)
 
 -- ---- two books
 module _ (s : Start) (g : ℕ) (cs ds : List Call) (y z : Book) (one : view y ≡ after s cs) (other : view z ≡ after s ds)
@@ -83,8 +80,8 @@ module _ (s : Start) (g : ℕ) (cs ds : List Call) (y z : Book) (one : view y �
   pub same_group : group_at (view y) g ≡ group_at (view z) g
   same_group = rw (one, other) (theorems.same_group s g cs ds same)
 
-  pub same_checks : founding_refusal s ≡ None → (p size month price : ℕ) → group_of p ≡ g → answer_in y p size month price ≡ answer_in z p size month price
-  same_checks founds p size month price e =
+  pub same_checks : founding_refusal s ≡ None → (p size month price : ℕ) → group_of p ≡ g → book_answer y p size month price ≡ book_answer z p size month price
+  same_checks is_founded p size month price e =
       sym (answered s cs y one p size month price)
-      ∙ theorems.same_checks s founds g cs ds same p size month price e
+      ∙ theorems.same_checks s is_founded g cs ds same p size month price e
       ∙ answered s ds z other p size month price

@@ -45,9 +45,9 @@ module _ (s : Start) (cs : List Call) (rs : List Answer) (z : Book) (run : Run s
   edition_is : z.edition ≡ (after s cs).common.edition
   edition_is = (agrees.compared s cs z contents_are).edition
 
-  keeps_edition_lem : z.edition ≡ cond (list_any is_conversion (kept cs rs)) 2023 s.edition
-  keeps_edition_lem =
-      edition_is ∙ theorems.keeps_edition s cs ∙ ap (λ es. cond (list_any is_conversion es) 2023 s.edition) (sym history_is)
+  edition_after_lem : z.edition ≡ cond (list_any is_conversion (kept cs rs)) 2023 s.edition
+  edition_after_lem =
+      edition_is ∙ theorems.edition_after s cs ∙ ap (λ es. cond (list_any is_conversion es) 2023 s.edition) (sym history_is)
 
   never_raised_lem : z.edition ≡ 2014 → every (λ a. not (has_raised a)) rs ≡ true
   never_raised_lem e =
@@ -100,7 +100,7 @@ whole_history =
       contents = contents_are;
       compared = λ s cs rs z run. agrees.compared s cs z (contents_are s cs rs z run);
       never_unsound = never_unsound_lem;
-      keeps_edition = keeps_edition_lem;
+      edition_after = edition_after_lem;
       never_raised = never_raised_lem;
       together = λ s cs rs z run. agrees.together s cs z (contents_are s cs rs z run);
       coupled = coupled;

@@ -56,7 +56,7 @@ pub record WholeHistory : Type 0 where
       (s : Start) (cs : List Call) (rs : List Answer) (z : Book) → Run s cs rs z
       → every (λ a. not (is_refusal unsound a)) rs ≡ true
   -- the book is of the edition that it was founded under until a conversion is accepted, and then of 2023
-  pub keeps_edition :
+  pub edition_after :
       (s : Start) (cs : List Call) (rs : List Answer) (z : Book) → Run s cs rs z
       → z.edition ≡ cond (list_any is_conversion (kept cs rs)) 2023 s.edition
   -- while it is of 2014 no group is raised
@@ -80,8 +80,8 @@ pub record WholeHistory : Type 0 where
   pub stays_free :
       (s : Start) (cs ds : List Call) (rs ts : List Answer) (y z : Book) → Run s cs rs y → Run s (cs ++ ds) ts z
       → (p q i j month x w : ℕ) (v : Verdict) → Checks y p i month x (Ok Free) → Checks z q j month w (Ok v) → v ≡ Free
-  -- two lists with the same edition and founding limits that agree on the accepted openings, ends and conversions and on one group's sheets of each day:
-  -- the same day is open after both, or none
+  -- two lists of one founding edition and one set of founding limits that agree on the accepted openings, ends and conversions and on one
+  -- group's sheets of each day: the same day is open after both, or none, and the edition is the same
   pub same_day :
       (s : Start) (g : ℕ) (cs ds : List Call) (rs ts : List Answer) (y z : Book)
       → Run s cs rs y → Run s ds ts z → SameFor g (kept cs rs) (kept ds ts) → (view y).common ≡ (view z).common

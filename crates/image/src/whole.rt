@@ -1,5 +1,5 @@
 // A whole image written: the book, and what the last accepted opening and end answered. Every function here takes any words and any book.
-ghost use Rattle.std.specs.Prelude.{◌*◌, ◌≡◌, map, replicate, flat_map};
+ghost use Rattle.std.specs.Prelude.{◌*◌, map, replicate, flat_map};
 ghost use Rattle.grain.specs.Products.{product_count};
 ghost use Rattle.record.specs.State.{group_count};
 ghost use Rattle.image.specs.Places as at;

@@ -3,7 +3,7 @@ use mathlib.Core.Path.{◌≡◌, refl}
 use mathlib.Core.List.{List, [], ◌∷◌, ◌++◌}
 use Rattle.grain.specs.declared.check.Verdict.TheVariants.{Free, Within, Below, Above}
 use Rattle.record.specs.Record.{Call, filed, checked, refused, accepted}
-use Rattle.record.proofs.Examples.{corn, soybeans, oil, meal, chicago_wheat, kc_wheat, jul24, sep24, dec24, mar25, may25, jul25, dec25, june3, june4, june5, june26, june27, on, a_book, opens, files, checks, corn_months, corn_day, flat, complex_day, quiet_day, state_of, opened_anew, answers_after, span}
+use Rattle.record.proofs.Examples.{corn, soybeans, oil, meal, chicago_wheat, kc_wheat, jul24, sep24, dec24, mar25, may25, jul25, dec25, june3, june4, june5, june26, june27, on, a_book, opens, files, checks, corn_months, corn_day, flat, complex_day, quiet_day, state_of, opened_unrenewed, answers_after, span}
 
 -- a day has ended with Corn at 4,000; the next is open
 abbrev at_initial : List Call
@@ -104,7 +104,7 @@ price_before_spot = refl
 -- with no day open a check is refused 2, and on the first day 14
 pub no_settlement :
     answers_after a_book [] (checks corn 0 sep24 4000 ∷ opens june3 ∷ checks corn 0 sep24 4000 ∷ [])
-    ≡ refused 2 ∷ opened_anew ∷ refused 14 ∷ []
+    ≡ refused 2 ∷ opened_unrenewed ∷ refused 14 ∷ []
 unfolding state_of
 no_settlement = refl
 

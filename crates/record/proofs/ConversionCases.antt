@@ -6,13 +6,13 @@ use lib.ListN.{replicate}
 use Rattle.record.specs.State.{initial, expanded}
 use Rattle.record.specs.End.{Quiet, Triggered, Held, Reverted}
 use Rattle.record.specs.Record.{Call, converted, refused, accepted}
-use Rattle.record.proofs.Examples.{corn, corn_group, jul24, dec24, june3, june4, june5, june6, june7, on, a_book, old_book, collected_in, collected, opens, converts, quiet_day, corn_day, flat, state_of, opened_anew, answers_after, limits, lead, outcome, in_one_run, all_renewed, renewal}
+use Rattle.record.proofs.Examples.{corn, corn_group, jul24, dec24, june3, june4, june5, june6, june7, on, a_book, old_book, collected_in, collected, opens, converts, quiet_day, corn_day, flat, state_of, opened_unrenewed, answers_after, limits, lead, outcome, in_one_run, all_renewed, renewal}
 
 -- ---- conversion: 2 18
 -- a fresh book of either edition is converted, and once more; with a day open 2
 pub both_editions :
     map (λ r. answers_after r [] (converts ∷ converts ∷ opens june3 ∷ converts ∷ [])) (old_book ∷ a_book ∷ [])
-    ≡ replicate 2 (accepted converted ∷ accepted converted ∷ opened_anew ∷ refused 2 ∷ [])
+    ≡ replicate 2 (accepted converted ∷ accepted converted ∷ opened_unrenewed ∷ refused 2 ∷ [])
 unfolding state_of
 both_editions = refl
 
@@ -31,7 +31,7 @@ expanded_corn = corn_day june3 flat ++ corn_day june4 (4200 ∷ 4200 ∷ 4000 �
 
 -- 18 under 2014 alone; 2 before 18
 pub expanded_refused :
-    answers_after old_book expanded_corn (converts ∷ opens june5 ∷ converts ∷ []) ≡ refused 18 ∷ opened_anew ∷ refused 2 ∷ []
+    answers_after old_book expanded_corn (converts ∷ opens june5 ∷ converts ∷ []) ≡ refused 18 ∷ opened_unrenewed ∷ refused 2 ∷ []
 unfolding state_of
 expanded_refused = refl
 
@@ -90,7 +90,7 @@ without_conversion = in_one_run _ _ _ _ refl
 -- 18 are left on 3 June: after the conversion neither 3 June opens again, nor 4 June with as many left
 pub left_across :
     answers_after old_book (corn_day june3 flat ++ converts ∷ []) (opens june3 ∷ opens (on 2024 6 4 18) ∷ opens (on 2024 6 4 17) ∷ [])
-    ≡ refused 4 ∷ refused 16 ∷ opened_anew ∷ []
+    ≡ refused 4 ∷ refused 16 ∷ opened_unrenewed ∷ []
 unfolding state_of
 left_across = refl
 

@@ -29,10 +29,10 @@ edition-by [] c = refl
 edition-by (a_day k ∷ es) c = edition-by es c
 edition-by (a_conversion ∷ es) c = refl
 
-pub keeps_edition_lem : (s : Start) (cs : List Call)
+pub edition_after_lem : (s : Start) (cs : List Call)
     → (after s cs).common.edition ≡ cond (list_any is_conversion (history_of s cs)) 2023 s.edition
 unfolding replay founded
-keeps_edition_lem s cs = rw (replayed s cs) (edition-by (history_of s cs) (founded s).common)
+edition_after_lem s cs = rw (replayed s cs) (edition-by (history_of s cs) (founded s).common)
 
 -- ---- a Record of 2014 was so before every call
 next_before : (r : Record) (c : Change) → (next r c).common.edition ≡ 2014 → r.common.edition ≡ 2014

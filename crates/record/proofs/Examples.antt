@@ -248,8 +248,8 @@ unfolding ◌and◌ every is_ascending steps floors firsts last_crop_months stan
 state_of r cs = state_after r cs
 
 -- an opening at which no product gets new limits
-abbrev pub opened_anew : Answer
-opened_anew = accepted (opened (replicate 8 false))
+abbrev pub opened_unrenewed : Answer
+opened_unrenewed = accepted (opened (replicate 8 false))
 
 -- the answers to further calls after a list of calls
 abbrev pub answers_after : Record → List Call → List Call → List Answer

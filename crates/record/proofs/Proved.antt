@@ -15,7 +15,7 @@ use Rattle.record.proofs.Independence.{same_day, same_group}
 use Rattle.record.proofs.Resending.{resent}
 use Rattle.record.proofs.StaysSound.{founded_sound, always_sound, never_unsound_lem}
 use Rattle.record.proofs.StaysFree.{stays_free}
-use Rattle.record.proofs.Editions.{keeps_edition_lem, never_raised_lem}
+use Rattle.record.proofs.Editions.{edition_after_lem, never_raised_lem}
 use Rattle.record.proofs.Coupled.{together, coupled}
 
 -- a check on a sound Record reads what is common and the product's group
@@ -41,7 +41,7 @@ theorems =
       stays_sound = stays_sound_lem;
       never_unsound = λ s f cs. never_unsound_lem (founded s) cs (founded_sound s f);
       replayed = replayed;
-      keeps_edition = keeps_edition_lem;
+      edition_after = edition_after_lem;
       never_raised = never_raised_lem;
       together = λ s cs. together (after s cs);
       coupled = λ s cs. coupled (after s cs);

@@ -7,7 +7,7 @@ use lib.ListN.{replicate, take}
 use Rattle.grain.specs.Dates.{contract_month}
 use Rattle.record.specs.Founding.{founding_refusal}
 use Rattle.record.specs.Record.{Call, filed, refused, accepted}
-use Rattle.record.proofs.Examples.{corn, oil, jul24, aug24, sep24, oct24, dec24, mar25, may25, jul25, june3, june4, june5, june26, june27, on, corn_at200, a_book, opens, files, ends, one_contract, corn_months, corn_day, flat, state_of, opened_anew, answers_after}
+use Rattle.record.proofs.Examples.{corn, oil, jul24, aug24, sep24, oct24, dec24, mar25, may25, jul25, june3, june4, june5, june26, june27, on, corn_at200, a_book, opens, files, ends, one_contract, corn_months, corn_day, flat, state_of, opened_unrenewed, answers_after}
 
 -- ---- founding: 17 13
 abbrev founding_of : ℕ → List ℕ → Option ℕ
@@ -41,7 +41,7 @@ no_edition = refl
 -- ---- opening: 2 3 4 16
 -- 2 before 3: a false date with a day open
 pub day_open :
-    answers_after a_book [] (opens (on 2024 2 29 0) ∷ opens (on 2024 2 30 0) ∷ []) ≡ opened_anew ∷ refused 2 ∷ []
+    answers_after a_book [] (opens (on 2024 2 29 0) ∷ opens (on 2024 2 30 0) ∷ []) ≡ opened_unrenewed ∷ refused 2 ∷ []
 unfolding state_of
 day_open = refl
 
@@ -53,21 +53,21 @@ ended3 = corn_day june3 flat
 pub false_dates :
     answers_after a_book ended3
     (opens (on 2023 2 29 0) ∷ opens (on 2099 1 4 0) ∷ opens (on 2024 7 1 31) ∷ opens (on 2024 7 1 30) ∷ [])
-    ≡ refused 3 ∷ refused 3 ∷ refused 3 ∷ opened_anew ∷ []
+    ≡ refused 3 ∷ refused 3 ∷ refused 3 ∷ opened_unrenewed ∷ []
 unfolding state_of
 false_dates = refl
 
 -- not later than the last opened
 pub not_later :
     answers_after a_book ended3 (opens june3 ∷ opens (on 2024 5 31 0) ∷ opens (on 2023 12 29 0) ∷ opens june4 ∷ [])
-    ≡ refused 4 ∷ refused 4 ∷ refused 4 ∷ opened_anew ∷ []
+    ≡ refused 4 ∷ refused 4 ∷ refused 4 ∷ opened_unrenewed ∷ []
 unfolding state_of
 not_later = refl
 
 -- 18 are left on 3 June: neither as many nor more are on 4 June, and 17 may be
 pub left_not_smaller :
     answers_after a_book ended3 (opens (on 2024 6 4 18) ∷ opens (on 2024 6 4 26) ∷ opens (on 2024 6 4 17) ∷ [])
-    ≡ refused 16 ∷ refused 16 ∷ opened_anew ∷ []
+    ≡ refused 16 ∷ refused 16 ∷ opened_unrenewed ∷ []
 unfolding state_of
 left_not_smaller = refl
 
@@ -81,12 +81,12 @@ left_judged_last = refl
 -- a month whose last opened day had none left opens no other; the next month begins with any left
 pub next_month :
     answers_after a_book (corn_day (on 2024 6 28 0) flat) (opens (on 2024 6 29 0) ∷ opens (on 2024 7 1 22) ∷ [])
-    ≡ refused 16 ∷ opened_anew ∷ []
+    ≡ refused 16 ∷ opened_unrenewed ∷ []
 unfolding state_of
 next_month = refl
 
 -- the same month of another year is another month
-pub another_year : answers_after a_book ended3 (opens (on 2025 6 3 18) ∷ []) ≡ opened_anew ∷ []
+pub another_year : answers_after a_book ended3 (opens (on 2025 6 3 18) ∷ []) ≡ opened_unrenewed ∷ []
 unfolding state_of
 another_year = refl
 
@@ -94,7 +94,7 @@ another_year = refl
 pub last_opened_counts :
     answers_after a_book (ended3 ++ corn_day june5 flat)
     (opens (on 2024 6 6 17) ∷ opens (on 2024 6 7 16) ∷ opens (on 2024 6 7 15) ∷ [])
-    ≡ refused 16 ∷ refused 16 ∷ opened_anew ∷ []
+    ≡ refused 16 ∷ refused 16 ∷ opened_unrenewed ∷ []
 unfolding state_of
 last_opened_counts = refl
 

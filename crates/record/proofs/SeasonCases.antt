@@ -1,12 +1,12 @@
 -- Seasons: new limits at an opening, computed.
 use Prim.Native.Nat.{ℕ}
 use mathlib.Core.Path.{◌≡◌, refl}
-use mathlib.Core.Bool.{Bool, true, false}
+use mathlib.Core.Bool.{true, false}
 use mathlib.Core.List.{List, [], ◌∷◌, ◌++◌}
 use lib.ListN.{replicate}
 use Rattle.record.specs.State.{Day}
 use Rattle.record.specs.Record.{Call, opened, accepted}
-use Rattle.record.proofs.Examples.{corn, soybeans, oil, meal, chicago_wheat, kc_wheat, oats, rice, jul25, nov25, dec25, on, files, of2025, a_book, collected, one_contract, full_day, quiet_day, days_of2025, state_of, Limits, limits, all_renewed, renewal}
+use Rattle.record.proofs.Examples.{corn, soybeans, oil, meal, chicago_wheat, kc_wheat, oats, rice, jul25, nov25, dec25, on, files, of2025, a_book, collected, one_contract, full_day, quiet_day, days_of2025, state_of, opened_unrenewed, Limits, limits, all_renewed, renewal}
 
 -- the limits of the example book
 abbrev as_founded : List Limits
@@ -54,9 +54,6 @@ unfolding state_of
 forty_five_days = refl
 
 -- ---- with windows that are nearly full
-abbrev all_no : List Bool
-all_no = replicate 8 false
-
 -- a 45th settlement and the next season: all eight, Oats too, whose new limits equal the old
 pub next_season :
     renewal (collected 44) (quiet_day (on 2025 2 14 0)) (on 2025 5 1 21)
@@ -67,14 +64,14 @@ next_season = refl
 -- a 44th and the next season: no new limits, the windows emptied
 pub forty_four :
     renewal (collected 43) (quiet_day (on 2025 2 14 0)) (on 2025 5 1 21)
-    ≡ record { answer = accepted (opened all_no); limits = as_founded; windows = replicate 8 [] }
+    ≡ record { answer = opened_unrenewed; limits = as_founded; windows = replicate 8 [] }
 unfolding state_of
 forty_four = refl
 
 -- a season skipped: no new limits, the windows emptied
 pub skipped_season :
     renewal (collected 44) (quiet_day (on 2025 2 14 0)) (on 2025 11 3 19)
-    ≡ record { answer = accepted (opened all_no); limits = as_founded; windows = replicate 8 [] }
+    ≡ record { answer = opened_unrenewed; limits = as_founded; windows = replicate 8 [] }
 unfolding state_of
 skipped_season = refl
 
@@ -82,7 +79,7 @@ skipped_season = refl
 pub same_season :
     renewal (collected 1) (quiet_day (on 2025 2 14 0)) (on 2025 4 30 0)
     ≡ record {
-      answer = accepted (opened all_no);
+      answer = opened_unrenewed;
       limits = as_founded;
       windows =
           (6000 ∷ 6000 ∷ [])
@@ -102,7 +99,7 @@ same_season = refl
 pub first_opening :
     renewal (collected 45) [] (on 2025 5 1 21)
     ≡ record {
-      answer = accepted (opened all_no);
+      answer = opened_unrenewed;
       limits = as_founded;
       windows =
           replicate 45 6000

@@ -11,7 +11,7 @@ use Rattle.record.specs.End.{Event, Quiet, Triggered, Held, Reverted, Raised}
 use Rattle.record.specs.Record.{Call, filed, ended, checked, refused, accepted}
 use Rattle.record.specs.History.{sheets_of, products_of}
 use Rattle.record.specs.Theorems.{history_of}
-use Rattle.record.proofs.Examples.{corn, soybeans, oil, meal, chicago_wheat, kc_wheat, oats, rice, wheats, sep24, dec24, jul25, june3, june4, june5, june6, opens, ends, checks, one_contract, unmoved, full_day, state_of, opened_anew, answers_after, span, limits, lead, Outcome, outcome, in_one_run}
+use Rattle.record.proofs.Examples.{corn, soybeans, oil, meal, chicago_wheat, kc_wheat, oats, rice, wheats, sep24, dec24, jul25, june3, june4, june5, june6, opens, ends, checks, one_contract, unmoved, full_day, state_of, opened_unrenewed, answers_after, span, limits, lead, Outcome, outcome, in_one_run}
 
 -- Chicago Wheat at 240 and 360, KC Wheat at 320 and 480
 abbrev kc_at320 : Start
@@ -58,7 +58,7 @@ pub each_to_its_own :
     ∷ one_contract chicago_wheat jul25 4362
     ∷ one_contract chicago_wheat jul25 4360
     ∷ [])
-    ≡ opened_anew
+    ≡ opened_unrenewed
     ∷ accepted (checked (Within (span 3640 4360)))
     ∷ accepted (checked (Above (span 3640 4360)))
     ∷ accepted (checked (Within (span 3640 4360)))

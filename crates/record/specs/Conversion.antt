@@ -1,4 +1,4 @@
--- The conversion of a book from the edition of 2014 to that of 2023: nothing but its edition changes.
+-- What refuses a conversion of a book from the edition of 2014 to that of 2023; that nothing but its edition changes stands in Record.antt.
 use Rattle.std.specs.Prelude.{Bool, ◌&&◌, List, [], ◌∷◌, eqb}
 use Rattle.std.specs.List.{list_any}
 use Rattle.record.specs.Refusals.{Test, when, wrong_phase, group_expanded}

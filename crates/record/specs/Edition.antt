@@ -1,4 +1,4 @@
--- The editions of the rule, by year, and all in which they differ: what the end of a day asks of a group's moves.
+-- The editions of the rule, by year, and all in which their days differ: what the end of a day asks of a group's moves.
 use Rattle.std.specs.Prelude.{ℕ, Bool, true, false, ◌||◌, cond, List, leb, eqb, length}
 use Rattle.std.specs.List.{list_any}
 use Rattle.record.specs.Move.{Move, is_at_least_initial, is_at_expanded, is_of_last_crop_month}

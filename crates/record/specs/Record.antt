@@ -106,9 +106,9 @@ next_by (Some n) r c = r
 next_by None r c = next r c
 
 -- a question changes nothing
-abbrev pub leaves : Record → Call → Record
-leaves r (change c) = next_by (refusal r (change c)) r c
-leaves r (question q) = r
+abbrev pub state_by : Record → Call → Record
+state_by r (change c) = next_by (refusal r (change c)) r c
+state_by r (question q) = r
 
 -- a refused call answers its number
 abbrev pub answer_by : Option ℕ → Accepted → Answer
@@ -124,7 +124,7 @@ pub record Result : Type 0 where
   pub answer : Answer
 
 unfoldable pub respond : Record → Call → Result
-respond r c = record { state = leaves r c; answer = answer_by (refusal r c) (answer r c) }
+respond r c = record { state = state_by r c; answer = answer_by (refusal r c) (answer r c) }
 
 -- the answer to a question
 abbrev pub ask : Record → Question → Answer

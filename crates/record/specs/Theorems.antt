@@ -97,7 +97,7 @@ pub record Theorems : Type 0 where
   -- the state after a list is the replay of its history
   pub replayed : (s : Start) (cs : List Call) → after s cs ≡ replay (history_of s cs) (founded s)
   -- a book is of the edition that it was founded under until a conversion is accepted, and then of 2023
-  pub keeps_edition :
+  pub edition_after :
       (s : Start) (cs : List Call) → (after s cs).common.edition ≡ cond (list_any is_conversion (history_of s cs)) 2023 s.edition
   -- while it is of 2014 no group is raised
   pub never_raised :

@@ -14,7 +14,7 @@ use Rattle.record.proofs.Cleared.{not_returned}
 use Rattle.book.specs.declared.Book.{Book}
 use Rattle.book.specs.Book.{view}
 use Rattle.tally.specs.Tally.{tally_full}
-use Rattle.tallying.specs.Tallies.{book_answer}
+use Rattle.checking.specs.Checks.{book_answer}
 
 pub book-counted : (b : Book) (p size month price : ℕ) → is_refusal tally_full (book_answer b p size month price) ≡ false
 unfolding respond refusal tests terms_tests order_tests answer every ◌and◌

@@ -1,8 +1,8 @@
 -- What a check on a book through a tally promises, whatever the book, the tally, product, size, month and price.
 use Rattle.std.specs.Prelude.{ℕ, ◌≡◌, cond}
-use Rattle.record.specs.Record.{check, opened, filed, ended, converted, checked, Answer, refused, accepted, ask}
+use Rattle.record.specs.Record.{opened, filed, ended, converted, checked, Answer, refused, accepted}
 use Rattle.book.specs.declared.Book.{Book}
-use Rattle.book.specs.Book.{view}
+use Rattle.checking.specs.Checks.{book_answer}
 use Rattle.tally.specs.declared.Tally.{Tally}
 use Rattle.tally.specs.declared.kinds.Kind.{Kind}
 use Rattle.tally.specs.declared.kinds.Kind.TheVariants.{Refused}
@@ -16,10 +16,6 @@ kind_of (accepted (opened l)) = Refused
 kind_of (accepted filed) = Refused
 kind_of (accepted (ended l)) = Refused
 kind_of (accepted converted) = Refused
-
--- what the Record of the book answers
-abbrev pub book_answer : Book → ℕ → ℕ → ℕ → ℕ → Answer
-book_answer b p size month price = ask (view b) (check p size month price)
 
 -- 15 and a tally's 1 are the tally's own; every other answer is the book's, and is counted, the book's own 1 too.
 -- The book is lent to read only, and stays as it is.

@@ -3,9 +3,10 @@ use Rattle.std.specs.Prelude.{ℕ}
 use Rattle.record.specs.Record.{Answer, refused}
 use Rattle.record.specs.Theorems.{is_refusal}
 use Rattle.book.specs.declared.Book.{Book}
+use Rattle.checking.specs.Checks.{book_answer}
 use Rattle.tally.specs.Tally.{tally_full}
 use Rattle.tally.specs.Through.{TalliedCall, ThroughOneTally}
-use Rattle.tallying.specs.Tallies.{kind_of, book_answer, Tallies}
+use Rattle.tallying.specs.Tallies.{kind_of, Tallies}
 
 -- one check; each may be on another book
 pub record Ask : Type 0 where
