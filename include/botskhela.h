@@ -321,7 +321,8 @@ uint32_t botskhela_end(botskhela_book *book);
 
 /*
  * Carries a book from the edition of 2014 to that of 2023, with no day open and every group at its initial level: the edition
- * changes, and nothing else. A sound book under 2023 with no day open is accepted too, and no byte of it changes.
+ * changes, and nothing else; renewed and events stay too. A sound book under 2023 with no day open is accepted too, and no byte of
+ * it changes.
  *
  * Refusals: BOTSKHELA_UNSOUND, BOTSKHELA_WRONG_PHASE, BOTSKHELA_GROUP_EXPANDED.
  */

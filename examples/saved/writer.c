@@ -7,10 +7,9 @@
  *
  * Started again it loads FILE and goes on where it stopped; it says on standard error where that is. Fed again from the
  * opening of the day that it names, it refuses what that day had already and makes the rest, so nobody has to know at which
- * line it was killed. A conversion behind the end of that day is made once more and changes nothing. But a conversion or an
- * opening that was refused while the day was open may be accepted now that it has ended: feed no such line again. check, bare
- * and book lines are passed over. A FILE that is not whole is not written over: bring back a good one, or take it away to
- * begin anew.
+ * line it was killed; but leave out a conversion or an opening that was refused while the day was open, as it may be accepted
+ * now that the day has ended. check, bare and book lines are passed over. A FILE that is not whole is not written over: bring
+ * back a good one, or take it away to begin anew.
  */
 #include <inttypes.h>
 #include <stdint.h>

@@ -1,6 +1,6 @@
 //! Measures a replay program: `history_bench PROGRAM ORACLE FOLDER`, FOLDER for the histories.
 //!
-//! It fails where an opening, a sheet or an end of a measured history is refused.
+//! It fails where a call of a measured history is refused or not answered.
 
 use std::fs::{self, File};
 use std::io::{self, Read};
