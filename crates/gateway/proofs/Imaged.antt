@@ -10,12 +10,12 @@ use Rattle.grain.specs.Lists.{every}
 use Rattle.grain.specs.Check.{span_in}
 use Rattle.grain.specs.declared.check.Span.{Span}
 use Rattle.grain.specs.declared.check.Verdict.{Verdict}
-use Rattle.grain.specs.declared.check.Verdict.TheVariants.{Free, Within, Below, Above}
+use Rattle.grain.specs.declared.check.Verdict.TheVariants.{Within, Below, Above}
 use Rattle.record.specs.Refusals.{unsound}
 use Rattle.record.specs.State.{Record, group_of, group_at}
 use Rattle.record.specs.Founding.{Start, founding_refusal, founded}
 use Rattle.record.specs.Sound.{is_sound}
-use Rattle.record.specs.Record.{Change, check, Call, change, question, opened, filed, ended, converted, checked, Answer, refused, accepted, refusal, answer, answer_by, respond, ask, state_after, answers}
+use Rattle.record.specs.Record.{Change, check, Call, change, question, checked, Answer, refused, accepted, refusal, answer, answer_by, respond, ask, state_after, answers}
 use Rattle.record.specs.History.{SameFor}
 use Rattle.record.specs.Theorems.{after, history_of, is_refusal}
 use Rattle.record.proofs.Proved.{theorems}
@@ -107,15 +107,10 @@ module _ (s : Start) (cs : List Call) (vs : List Seen) (z : List ℕ) (run : Ima
         record { at_lowest = ap with_span r.at_lowest; at_highest = ap with_span r.at_highest }
 
     resends : (a : Answer) → image_answer z p size month price ≡ a → 0 < (answer_span a).lowest → ResentImage z p size month (with_span a)
-    resends (refused n) e l = absurd (omega arith)
-    resends (accepted (opened b)) e l = absurd (omega arith)
-    resends (accepted filed) e l = absurd (omega arith)
-    resends (accepted (ended b)) e l = absurd (omega arith)
-    resends (accepted converted) e l = absurd (omega arith)
-    resends (accepted (checked Free)) e l = absurd (omega arith)
     resends (accepted (checked (Within a))) e l = at_ends (Within a) a e refl
     resends (accepted (checked (Below a))) e l = let r = at_ends (Below a) a e refl in record { at_lowest = r.at_lowest; at_highest = r.at_highest }
     resends (accepted (checked (Above a))) e l = let r = at_ends (Above a) a e refl in record { at_lowest = r.at_lowest; at_highest = r.at_highest }
+    resends a e l = absurd (omega arith)
 
 -- no number is 1 where no answer is refusal 1
 numbers_are : (rs es : List ℕ) (l : List Answer)

@@ -5,7 +5,7 @@ use native.Mathlib.Omega.{arith}
 use lib.Dec.{eqb}
 use borrow.Author.Tests.{ne_eqb}
 use Rattle.grain.specs.declared.check.Verdict.TheVariants.{Free, Within, Below, Above}
-use Rattle.record.specs.Record.{opened, filed, ended, converted, checked, Answer, refused, accepted}
+use Rattle.record.specs.Record.{checked, Answer, refused, accepted}
 use Rattle.record.specs.Theorems.{is_refusal}
 use Rattle.std.specs.Prelude.{Bool, true, false, not, [], ◌∷◌, None, unwrap_or}
 use Rattle.grain.specs.Refusals.{unfit_amount}
@@ -17,14 +17,11 @@ use Rattle.gateway.specs.Calls.{answer_number}
 -- 0 is an accepted call's, and those from 100 on are verdicts'
 pub number_of : (n : ℕ) → 0 < n → n < 100 → (a : Answer) → eqb (answer_number a) n ≡ is_refusal n a
 number_of n l h (refused m) = refl
-number_of n l h (accepted (opened bs)) = ne_eqb 0 n (omega arith)
-number_of n l h (accepted filed) = ne_eqb 0 n (omega arith)
-number_of n l h (accepted (ended es)) = ne_eqb 0 n (omega arith)
-number_of n l h (accepted converted) = ne_eqb 0 n (omega arith)
 number_of n l h (accepted (checked Free)) = ne_eqb 100 n (omega arith)
 number_of n l h (accepted (checked (Within s))) = ne_eqb 101 n (omega arith)
 number_of n l h (accepted (checked (Below s))) = ne_eqb 102 n (omega arith)
 number_of n l h (accepted (checked (Above s))) = ne_eqb 103 n (omega arith)
+number_of n l h (accepted a) = ne_eqb 0 n (omega arith)
 
 -- a founding's number is 0 only where it is accepted
 pub accepted_by : (s : Start) → 0 ≡ unwrap_or (founding_refusal s) 0 → founding_refusal s ≡ None

@@ -7,7 +7,7 @@ use Rattle.grain.specs.Bare.{no_span, span_or}
 use Rattle.grain.specs.declared.check.Span.{Span}
 use Rattle.record.specs.State.{group_count}
 use Rattle.record.specs.Founding.{Start, founding_refusal, founded}
-use Rattle.record.specs.Record.{Change, convert, check, Call, change, question, opened, filed, ended, converted, checked, Answer, refused, accepted, refusal, respond}
+use Rattle.record.specs.Record.{Change, convert, check, Call, change, question, opened, ended, checked, Answer, refused, accepted, refusal, respond}
 use Rattle.book.specs.Book.{view}
 use Rattle.image.specs.Places.{event_words}
 use Rattle.image.specs.Image.{flag_word, book_in}
@@ -17,29 +17,18 @@ use Rattle.gateway.specs.declared.spans.Spanned.{Spanned}
 -- the number that a call returns: 0 where it is accepted, and a check's verdict
 abbrev pub answer_number : Answer → ℕ
 answer_number (refused n) = n
-answer_number (accepted (opened l)) = 0
-answer_number (accepted filed) = 0
-answer_number (accepted (ended l)) = 0
-answer_number (accepted converted) = 0
 answer_number (accepted (checked v)) = verdict_number v
+answer_number (accepted a) = 0
 
 -- what stands in renewed after a call, of what stood there: an accepted opening's answer, in a word for each product
 abbrev pub renewed_after : Answer → List ℕ → List ℕ
-renewed_after (refused n) rs = rs
 renewed_after (accepted (opened l)) rs = map flag_word l
-renewed_after (accepted filed) rs = rs
-renewed_after (accepted (ended l)) rs = rs
-renewed_after (accepted converted) rs = rs
-renewed_after (accepted (checked v)) rs = rs
+renewed_after a rs = rs
 
 -- what stands in events after a call: what an accepted end did, in three words for each group
 abbrev pub events_after : Answer → List ℕ → List ℕ
-events_after (refused n) es = es
-events_after (accepted (opened l)) es = es
-events_after (accepted filed) es = es
 events_after (accepted (ended l)) es = flat_map words_of_event l
-events_after (accepted converted) es = es
-events_after (accepted (checked v)) es = es
+events_after a es = es
 
 -- what the Record of the book in the words answers
 abbrev pub answer_to : List ℕ → Call → Answer
@@ -69,12 +58,8 @@ image_check ws p size month price = answer_number (image_answer ws p size month 
 
 -- the span of an answer, two zeros where it has none
 abbrev pub answer_span : Answer → Span
-answer_span (refused n) = no_span
-answer_span (accepted (opened l)) = no_span
-answer_span (accepted filed) = no_span
-answer_span (accepted (ended l)) = no_span
-answer_span (accepted converted) = no_span
 answer_span (accepted (checked v)) = span_or (span_in v)
+answer_span a = no_span
 
 abbrev pub with_span : Answer → Spanned
 with_span a = record { answer = answer_number a; lowest = (answer_span a).lowest; highest = (answer_span a).highest }

@@ -24,7 +24,7 @@ use Rattle.record.specs.End.{Event, Quiet, Lead, event_of, group_event, end_prod
 use Rattle.record.specs.Check.{terms_tests, order_tests, judged}
 use Rattle.record.specs.Sound.{is_sound_sheet, is_sound_window, is_sound_product, is_sound_group, is_sound_date, is_sound}
 use Rattle.record.specs.Conversion.{conversion_tests}
-use Rattle.record.specs.Record.{opening, sheet, end, convert, check, Call, change, question, opened, filed, ended, converted, checked, Answer, refused, accepted, is_outstanding, tests, refusal, answer, next_common, next_group, next, Result, respond, state_after, answers}
+use Rattle.record.specs.Record.{opening, sheet, end, convert, check, Call, change, question, opened, ended, Answer, accepted, is_outstanding, tests, refusal, answer, next_common, next_group, next, Result, respond, state_after, answers}
 use Rattle.record.specs.History.{kept_from}
 
 -- ---- products, groups, contract months and days by name
@@ -275,12 +275,8 @@ lead p m = record { month = m; product = p }
 
 abbrev events_of : ℕ → List Answer → List Event
 events_of g [] = []
-events_of g (refused n ∷ l) = events_of g l
-events_of g (accepted (opened new) ∷ l) = events_of g l
-events_of g (accepted filed ∷ l) = events_of g l
 events_of g (accepted (ended events) ∷ l) = get_or events g Quiet ∷ events_of g l
-events_of g (accepted converted ∷ l) = events_of g l
-events_of g (accepted (checked v) ∷ l) = events_of g l
+events_of g (a ∷ l) = events_of g l
 
 -- What a list of calls makes of a group.
 pub record Outcome : Type 0 where

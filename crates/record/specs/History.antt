@@ -21,14 +21,12 @@ pub data Entry : Type 0 where
 
 -- what an accepted change adds; a sheet and an end are of the last day, which is open
 abbrev pub with_sheet : ProductSheet → List Entry → List Entry
-with_sheet f [] = []
-with_sheet f (a_conversion ∷ es) = a_conversion ∷ es
 with_sheet f (a_day k ∷ es) = a_day (record { day = k.day; sheets = f ∷ k.sheets; is_ended = k.is_ended }) ∷ es
+with_sheet f es = es
 
 abbrev pub with_end : List Entry → List Entry
-with_end [] = []
-with_end (a_conversion ∷ es) = a_conversion ∷ es
 with_end (a_day k ∷ es) = a_day (record { day = k.day; sheets = k.sheets; is_ended = true }) ∷ es
+with_end es = es
 
 abbrev pub add : Change → List Entry → List Entry
 add (opening d) es = a_day (record { day = d; sheets = []; is_ended = false }) ∷ es

@@ -12,7 +12,7 @@ use Rattle.record.specs.Founding.{Start, founding_refusal, founded}
 use Rattle.record.specs.End.{is_raised}
 use Rattle.record.specs.Check.{listed}
 use Rattle.record.specs.Sound.{is_sound}
-use Rattle.record.specs.Record.{check, Call, opened, filed, ended, converted, checked, Answer, refused, accepted, ask, state_after, answers}
+use Rattle.record.specs.Record.{check, Call, ended, checked, Answer, refused, accepted, ask, state_after, answers}
 use Rattle.record.specs.History.{Entry, a_day, a_conversion, kept, products_of, SameFor}
 use Rattle.record.specs.Replay.{replay}
 
@@ -33,12 +33,8 @@ is_refusal n (accepted a) = false
 
 -- an end raised a group
 abbrev pub has_raised : Answer → Bool
-has_raised (refused n) = false
-has_raised (accepted (opened l)) = false
-has_raised (accepted filed) = false
 has_raised (accepted (ended events)) = list_any is_raised events
-has_raised (accepted converted) = false
-has_raised (accepted (checked v)) = false
+has_raised a = false
 
 abbrev pub is_conversion : Entry → Bool
 is_conversion (a_day k) = false

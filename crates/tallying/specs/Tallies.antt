@@ -1,6 +1,6 @@
 -- What a check on a book through a tally promises, whatever the book, the tally, product, size, month and price.
 use Rattle.std.specs.Prelude.{ℕ, ◌≡◌, cond}
-use Rattle.record.specs.Record.{opened, filed, ended, converted, checked, Answer, refused, accepted}
+use Rattle.record.specs.Record.{checked, Answer, refused, accepted}
 use Rattle.book.specs.declared.Book.{Book}
 use Rattle.checking.specs.Checks.{book_answer}
 use Rattle.tally.specs.declared.Tally.{Tally}
@@ -11,11 +11,7 @@ use Rattle.tally.specs.Tally.{tally_refusal, takes, kind_of_verdict, counted}
 -- what an answer is counted as: a check is answered by a verdict or a refusal
 abbrev pub kind_of : Answer → Kind
 kind_of (accepted (checked v)) = kind_of_verdict v
-kind_of (refused n) = Refused
-kind_of (accepted (opened l)) = Refused
-kind_of (accepted filed) = Refused
-kind_of (accepted (ended l)) = Refused
-kind_of (accepted converted) = Refused
+kind_of a = Refused
 
 -- 15 and a tally's 1 are the tally's own; every other answer is the book's, and is counted, the book's own 1 too.
 -- The book is lent to read only, and stays as it is.
