@@ -6,12 +6,9 @@ use Rattle.grain.specs.Lists.{◌and◌, every}
 use Rattle.grain.proofs.Tests.{and_left, and_right}
 use Rattle.record.specs.Refusals.{Test, when, first, unsound}
 use Rattle.record.specs.State.{Record}
-use Rattle.record.specs.Opening.{opening_tests}
-use Rattle.record.specs.Sheet.{sheet_tests}
-use Rattle.record.specs.Check.{terms_tests, order_tests}
-use Rattle.record.specs.Conversion.{conversion_tests}
 use Rattle.record.specs.Sound.{is_sound}
-use Rattle.record.specs.Record.{opening, sheet, end, convert, check, Call, change, question, tests, refusal}
+use Rattle.record.specs.Record.{Call, tests, refusal}
+use Rattle.record.proofs.TestNumbers.{other_tests}
 
 abbrev is_numbered : Test → Bool
 is_numbered t = not (eqb t.number 0)
@@ -25,14 +22,6 @@ first_numbered (t ∷ l) n e = go t.applies t.number (and_left _ _ n) (first_num
     go true m k later h = let z : m ≡ 0 = cc in false≢true (rw z at k)
     go false m k later h = later h
 
-numbered_tests : (r : Record) (c : Call) → every is_numbered (tests r c) ≡ true
-unfolding every ◌and◌ tests opening_tests sheet_tests conversion_tests terms_tests order_tests
-numbered_tests r (change (opening d)) = refl
-numbered_tests r (change (sheet p ms ss)) = refl
-numbered_tests r (change end) = refl
-numbered_tests r (change convert) = refl
-numbered_tests r (question (check p size month price)) = refl
-
 pub not-zero : (r : Record) (c : Call) → refusal r c ≡ Some 0 → ⊥
 unfolding refusal every ◌and◌
-not-zero r c e = first_numbered (when (not (is_sound r)) unsound ∷ tests r c) (numbered_tests r c) e
+not-zero r c e = first_numbered (when (not (is_sound r)) unsound ∷ tests r c) (other_tests 0 refl r c) e

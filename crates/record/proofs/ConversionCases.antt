@@ -17,7 +17,7 @@ unfolding state_of
 both_editions = refl
 
 -- nothing but the edition changes, windows of 2014 included; a book under 2023 stays as it is
-pub edition_alone : state_of (collected_in old_book 2) (converts ∷ []) ≡ collected 2
+pub edition_alone : state_of (collected_in old_book (λ p. 2)) (converts ∷ []) ≡ collected 2
 unfolding state_of
 edition_alone = refl
 
@@ -96,7 +96,7 @@ left_across = refl
 
 -- a window that is filled across a conversion gives one season limit, and is then empty
 pub window_across :
-    renewal (collected_in old_book 43) (quiet_day (on 2025 2 13 1) ++ converts ∷ quiet_day (on 2025 2 14 0)) (on 2025 5 1 21)
+    renewal (collected_in old_book (λ p. 43)) (quiet_day (on 2025 2 13 1) ++ converts ∷ quiet_day (on 2025 2 14 0)) (on 2025 5 1 21)
     ≡ all_renewed
 unfolding state_of
 window_across = refl

@@ -160,15 +160,12 @@ a_book_with windows = with_windows windows a_book
 abbrev usual_settlement : ℕ → ℕ
 usual_settlement p = get_or (6000 ∷ 8000 ∷ 5000 ∷ 4000 ∷ 4000 ∷ 4000 ∷ 1920 ∷ 3000 ∷ []) p 0
 
--- a book with so many of it in each window
-abbrev pub collected_in : Record → ℕ → Record
-collected_in r n = with_windows (λ p. replicate n (usual_settlement p)) r
-
-abbrev pub collected_by : (ℕ → ℕ) → Record
-collected_by counts = a_book_with (λ p. replicate (counts p) (usual_settlement p))
+-- a book with so many of it in a product's window
+abbrev pub collected_in : Record → (ℕ → ℕ) → Record
+collected_in r counts = with_windows (λ p. replicate (counts p) (usual_settlement p)) r
 
 abbrev pub collected : ℕ → Record
-collected n = collected_in a_book n
+collected n = collected_in a_book (λ p. n)
 
 -- ---- calls
 abbrev pub opens : Day → Call

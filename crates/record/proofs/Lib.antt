@@ -3,6 +3,7 @@ pub mod TrueDays
 pub mod GroupTable
 pub mod CheckTerms
 pub mod Cleared
+pub mod TestNumbers
 pub mod Kept
 pub mod Replayed
 pub mod Independence

@@ -9,7 +9,7 @@ use Rattle.grain.specs.declared.check.Verdict.TheVariants.{Within, Above}
 use Rattle.record.specs.State.{Day, Record, initial, expanded, with_level, with_mark}
 use Rattle.record.specs.End.{Event, Quiet, Triggered, Held, Raised}
 use Rattle.record.specs.Record.{Call, opened, filed, checked, refused, accepted}
-use Rattle.record.proofs.Examples.{corn, soybeans, oil, meal, chicago_wheat, kc_wheat, oats, rice, corn_group, complex, wheats, oats_group, jul25, on, collected_by, collected, opens, checks, one_contract, full_day, state_of, answers_after, span, Limits, limits, lead, Outcome, outcome, in_one_run}
+use Rattle.record.proofs.Examples.{corn, soybeans, oil, meal, chicago_wheat, kc_wheat, oats, rice, corn_group, complex, wheats, oats_group, jul25, on, a_book, collected_in, collected, opens, checks, one_contract, full_day, state_of, answers_after, span, Limits, limits, lead, Outcome, outcome, in_one_run}
 
 -- a day with these July 2025 settlements of Corn, Oil, Chicago Wheat and Oats; no other product moves
 abbrev four_move : Day → ℕ → ℕ → ℕ → ℕ → List Call
@@ -31,7 +31,7 @@ may1 = on 2025 5 1 21
 
 -- after these days one product has a full window, the others three settlements each
 abbrev full_for : ℕ → Record
-full_for p = collected_by (λ q. cond (eqb q p) 42 0)
+full_for p = collected_in a_book (λ q. cond (eqb q p) 42 0)
 
 -- the events of these days, led by a product
 abbrev marking : ℕ → List Event

@@ -15,14 +15,11 @@ use Rattle.record.specs.Refusals.{when, unsound, unknown_edition}
 use Rattle.record.specs.Edition.{is_edition}
 use Rattle.record.specs.State.{Record, group_table}
 use Rattle.record.specs.Founding.{Start, are_fit, founding_refusal, found_product, found_group, founded}
-use Rattle.record.specs.Opening.{opening_tests}
-use Rattle.record.specs.Sheet.{sheet_tests}
-use Rattle.record.specs.Check.{terms_tests, order_tests}
 use Rattle.record.specs.Sound.{is_sound_group, is_sound_date, is_sound}
-use Rattle.record.specs.Conversion.{conversion_tests}
-use Rattle.record.specs.Record.{opening, sheet, end, convert, check, Call, change, question, tests, refusal, answer, next_by, respond, state_after, answers}
+use Rattle.record.specs.Record.{Call, change, question, tests, refusal, answer, next_by, respond, state_after, answers}
 use Rattle.record.specs.Theorems.{is_refusal}
 use Rattle.record.proofs.Cleared.{cleared, accepted_clear, not_returned}
+use Rattle.record.proofs.TestNumbers.{other_tests}
 use Rattle.record.proofs.SoundGroups.{found_group_lem}
 use Rattle.record.proofs.SoundCalls.{facts_sound, accepted_sound}
 
@@ -53,18 +50,9 @@ unfolding state_after
 always_sound r [] t = t
 always_sound r (c ∷ cs) t = always_sound (respond r c).state cs (respond_sound r c t)
 
--- no test after the first returns 1
-later_tests : (r : Record) (c : Call) → every (λ t. not (eqb t.number unsound)) (tests r c) ≡ true
-unfolding ◌and◌ every tests opening_tests sheet_tests conversion_tests terms_tests order_tests
-later_tests r (change (opening d)) = refl
-later_tests r (change (sheet p ms ss)) = refl
-later_tests r (change end) = refl
-later_tests r (change convert) = refl
-later_tests r (question (check p size month price)) = refl
-
 respond-not-unsound : (r : Record) (c : Call) → is_sound r ≡ true → not (is_refusal unsound (respond r c).answer) ≡ true
 unfolding respond refusal
-respond-not-unsound r c t = rw t (not_returned unsound (answer r c) (tests r c) (later_tests r c))
+respond-not-unsound r c t = rw t (not_returned unsound (answer r c) (tests r c) (other_tests unsound refl r c))
 
 pub never_unsound_lem : (r : Record) (cs : List Call) → is_sound r ≡ true
     → every (λ a. not (is_refusal unsound a)) (answers r cs) ≡ true
