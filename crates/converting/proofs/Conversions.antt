@@ -1,7 +1,8 @@
 -- What refuses a conversion of a book, and the book that an accepted one leaves.
 use Rattle.std.proofs.Common.{ℕ, ◌≡◌, refl, sym, ◌∙◌, ap, Bool, true, false, cond, eqb, length, List, [], ◌∷◌}
-use Rattle.std.specs.Prelude.{◌&&◌, Some, None}
+use Rattle.std.specs.Prelude.{◌&&◌, Option, Some, None, Result}
 use Rattle.std.specs.List.{list_any}
+use Rattle.grain.specs.declared.refusals.Refusal.{Refusal}
 use Rattle.grain.proofs.Every.{any_mapped}
 use Rattle.record.specs.Refusals.{Test, when, group_expanded}
 use Rattle.record.specs.State.{Group, group_count}
@@ -16,6 +17,7 @@ use Rattle.book.specs.Phase.{phase_refusal}
 use Rattle.book.proofs.Numbers.{values_are}
 use Rattle.book.proofs.Phases.{refused_early, decided_late}
 use Rattle.book.proofs.Views.{shown_group, groups_are, next-view}
+use Rattle.converting.specs.Converts.{with_2023, Converts}
 
 level_is : (e : Bool) → is_expanded (level_of e) ≡ e
 level_is true = refl
@@ -54,13 +56,17 @@ pub levels_decide : (b : Book) → length b.standings ≡ group_count → None �
 levels_decide b long e = edition_decides b e ∙ ap (λ x. cond (eqb b.edition 2014 && x) (Some group_expanded) None) (expanded_is b long)
 
 -- ---- the book after it
--- a book with its edition changed
-abbrev pub with_2023 : Book → Book
-with_2023 b = record { edition = 2023; standings = b.standings; products = b.products; opened = b.opened; is_open = b.is_open }
-
 pub converted_view : (b : Book) → view (with_2023 b) ≡ next (view b) convert
 unfolding next_common next_group view_common view_group
 converted_view b = next-view b (with_2023 b) convert refl (λ g l. refl)
 
 pub stays : (b : Book) → b.edition ≡ 2023 → with_2023 b ≡ b
 stays b e = rw (← e)
+
+-- refused or accepted, a book under 2023 is left as it is
+pub same_book : (b after : Book) (r : Result (Unit {0}) Refusal) → Converts b r after → b.edition ≡ 2023 → after ≡ b
+same_book b after r c e = go (refusal (view b) (change convert)) refl
+  where
+    go : (o : Option ℕ) → refusal (view b) (change convert) ≡ o → after ≡ b
+    go (Some n) h = c.responds.unchanged n h
+    go None h = c.carried h ∙ stays b e

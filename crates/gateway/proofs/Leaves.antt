@@ -32,6 +32,11 @@ refused_stays : (r : Record) (c : Change) (n : ℕ) → refused n ≡ (respond r
 unfolding respond
 refused_stays r c n e = stays_by (refusal r (change c)) r c n e
 
+-- so that it is not accepted
+pub not_accepted : (ws : List ℕ) (c : Change) (n : ℕ) (z : Book) → Responds (book_in ws) c (refused n) z → refusal (view (book_in ws)) (change c) ≡ None → ⊥
+unfolding respond
+not_accepted ws c n z r e = let x : refused n ≡ accepted (answer (view (book_in ws)) (change c)) = rw e at r.answer in cc
+
 pub refused_image : (ws : List ℕ) (c : Change) (n : ℕ) (z : Book) → Responds (book_in ws) c (refused n) z → RespondsImage ws c n ws
 refused_image ws c n z r =
     record {
@@ -60,20 +65,26 @@ module _ (ws : List ℕ) (c : Change) (a : Accepted) (z : Book) (r : Responds (b
       by true e = refl
       by false e = cc (not_refused, unsound-refusal (view (book_in ws)) (change c) e)
 
-  sound_after : is_sound (view z) ≡ true
+  pub sound_after : is_sound (view z) ≡ true
   sound_after = rw r.state (respond_sound (view (book_in ws)) (change c) sound_before)
+
+  -- the words that hold the book after it, and its answers beside it
+  pub holding_image : (now : List ℕ) → answer_number (accepted a) ≡ 0 → book_in now ≡ z
+      → renewed_in now ≡ renewed_after (accepted a) (renewed_in ws) → events_in now ≡ events_after (accepted a) (events_in ws)
+      → RespondsImage ws c 0 now
+  holding_image now zero holds renewed events =
+      record {
+        number = sym zero ∙ ap answer_number r.answer;
+        state = ap view holds ∙ r.state;
+        renewed = renewed ∙ ap (λ a. renewed_after a (renewed_in ws)) r.answer;
+        events = events ∙ ap (λ a. events_after a (events_in ws)) r.answer;
+        unchanged = λ m e. cc (not_refused, e);
+      }
 
   pub accepted_image : (now : List ℕ) → answer_number (accepted a) ≡ 0
       → Put z (renewed_after (accepted a) (renewed_in ws)) (events_after (accepted a) (events_in ws)) now
       → RespondsImage ws c 0 now
-  accepted_image now zero p =
-      record {
-        number = sym zero ∙ ap answer_number r.answer;
-        state = ap view (p.book sound_after) ∙ r.state;
-        renewed = p.renewed ∙ ap (λ a. renewed_after a (renewed_in ws)) r.answer;
-        events = p.events ∙ ap (λ a. events_after a (events_in ws)) r.answer;
-        unchanged = λ m e. cc (not_refused, e);
-      }
+  accepted_image now zero p = holding_image now zero (p.book sound_after) p.renewed p.events
 
 -- what is written of such a change, where putting leaves what the answer a.now says
 module _ {A : Type 0} (gives : A → Accepted) (ws : List ℕ) (c : Change) (z : Book) (post : MutBor (List ℕ) → Bor A → MutBor (List ℕ) → Type 0)

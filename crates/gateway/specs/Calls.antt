@@ -9,6 +9,7 @@ use Rattle.record.specs.State.{group_count}
 use Rattle.record.specs.Founding.{Start, founding_refusal, founded}
 use Rattle.record.specs.Record.{Change, convert, check, Call, change, question, opened, ended, checked, Answer, refused, accepted, refusal, respond}
 use Rattle.book.specs.Book.{view}
+use Rattle.converting.specs.Converts.{with_2023}
 use Rattle.image.specs.Places.{event_words}
 use Rattle.image.specs.Image.{flag_word, book_in}
 use Rattle.image.specs.Answers.{words_of_event, renewed_in, events_in}
@@ -43,9 +44,10 @@ pub record RespondsImage (ws : List ℕ) (c : Change) (n : ℕ) (now : List ℕ)
   pub events : events_in now ≡ events_after (answer_to ws (change c)) (events_in ws)
   pub unchanged : (m : ℕ) → refusal (view (book_in ws)) (change c) ≡ Some m → now ≡ ws
 
--- A conversion leaves the very words of a book under 2023 too.
+-- A conversion that is accepted changes nothing of the book but its edition, unused places too, and leaves the very words of one under 2023.
 pub record ConvertsImage (ws : List ℕ) (n : ℕ) (now : List ℕ) : Type 0 where
   pub responds : RespondsImage ws convert n now
+  pub carried : refusal (view (book_in ws)) (change convert) ≡ None → book_in now ≡ with_2023 (book_in ws)
   pub same : (book_in ws).edition ≡ 2023 → now ≡ ws
 
 -- what the Record of the book in the words answers to a check

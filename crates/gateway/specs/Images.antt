@@ -36,7 +36,7 @@ seen_of rs es (a ∷ l) =
     record { number = answer_number a; renewed = renewed_after a rs; events = events_after a es }
     ∷ seen_of (renewed_after a rs) (events_after a es) l
 
--- One call on an image, by its contract; a conversion's says more, of the words of a book under 2023 (ConvertsImage).
+-- One call on an image, by its contract; a conversion's says more (ConvertsImage).
 pub data ImageStep : List ℕ → Call → Seen → List ℕ → Type 0 where
   changes : {ws now : List ℕ} {c : Change} (n : ℕ) → RespondsImage ws c n now → ImageStep ws (change c) (sees n now) now
   checks : {ws : List ℕ} {p size month price : ℕ} (n : ℕ)

@@ -1,20 +1,37 @@
-use Rattle.std.proofs.Common.{refl, ◌∙◌, ap}
+use Rattle.std.proofs.Common.{◌≡◌, refl, sym, ◌∙◌, ap}
 use Rattle.book.specs.declared.Book.{Book}
-use Rattle.gateway.proofs.Leaves.{refused_image, accepted_image}
+use Rattle.image.specs.Image.{book_in}
+use Rattle.converting.proofs.Conversions.{stays, same_book}
+use Rattle.gateway.proofs.Leaves.{not_accepted, refused_image, sound_after, holding_image, accepted_image}
 use Rattle.gateway.proofs.calls.botskhela_convert.Goals as goal
 
 pub returns-in-Err : goal.returns-in-Err
 returns-in-Err c =
-    let converts = rw c.book_in-b.ensures at c.convert.ensures in
+    let ws = c.args.words.now in
+    let refuses = (rw (c.book_in-b.ensures, c.in-Err.is) at c.convert.ensures).responds in
     record {
-      responds = rw c.into.ensures (refused_image c.args.words.now _ _ _ (rw c.in-Err.is at converts.responds));
+      responds = rw c.into.ensures (refused_image ws _ _ _ refuses);
+      carried = λ e. absurd (not_accepted ws _ _ _ refuses e);
+      same = λ e. refl;
+    }
+
+pub returns-then-edition-eq-EDITION_2023 : goal.returns-then-edition-eq-EDITION_2023
+returns-then-edition-eq-EDITION_2023 c =
+    let ws = c.args.words.now in
+    let converts = rw (c.book_in-b.ensures, c.in_default.is) at c.convert.ensures in
+    let is : (book_in ws).edition ≡ 2023 = sym (ap (λ (b : Book). b.edition) c.book_in-b.ensures) ∙ c.if-edition-eq-EDITION_2023.true in
+    record {
+      responds = holding_image ws _ _ _ converts.responds _ refl (sym (same_book _ _ _ converts is)) refl refl;
+      carried = λ e. sym (stays (book_in ws) is);
       same = λ e. refl;
     }
 
 pub returns : goal.returns
 returns c =
-    let converts = rw c.book_in-b.ensures at c.convert.ensures in
+    let ws = c.args.words.now in
+    let converts = rw (c.book_in-b.ensures, c.in_default.is) at c.convert.ensures in
     record {
-      responds = accepted_image c.args.words.now _ _ _ (rw c.in_default.is at converts.responds) _ refl c.put_alone.ensures;
+      responds = accepted_image ws _ _ _ converts.responds _ refl c.put_alone.ensures;
+      carried = λ e. c.put_alone.ensures.book (sound_after ws _ _ _ converts.responds) ∙ converts.carried e;
       same = λ e. absurd (c.if-edition-eq-EDITION_2023.false (ap (λ (b : Book). b.edition) c.book_in-b.ensures ∙ e));
     }
