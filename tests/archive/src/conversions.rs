@@ -21,10 +21,10 @@ const SEED: u64 = 20_230_107;
 
 const FORMATS: [u32; 6] = [FORMAT, 0, 1, 2, 4, u32::MAX];
 
-const DAY_OPEN: u32 = 2;
+const WRONG_PHASE: u32 = 2;
 const GROUP_EXPANDED: u32 = 18;
 
-const CONVERT: Range = ("convert", &[ACCEPTED, UNSOUND, DAY_OPEN, GROUP_EXPANDED]);
+const CONVERT: Range = ("convert", &[ACCEPTED, UNSOUND, WRONG_PHASE, GROUP_EXPANDED]);
 
 /// So many images under 2014 are carried, and each lives on for so many days.
 const CARRIED: usize = 1_000;
@@ -36,9 +36,9 @@ const LEAST: u64 = 10;
 /// What the calls after a conversion can return, apart from orders.
 const AFTERWARDS: [Range; 4] = [
     ("open", &[ACCEPTED, 3, 4, 16]),
-    ("sheet", &[ACCEPTED, DAY_OPEN, 9, 10]),
-    ("end", &[ACCEPTED, DAY_OPEN, 12]),
-    ("convert", &[ACCEPTED, DAY_OPEN]),
+    ("sheet", &[ACCEPTED, WRONG_PHASE, 9, 10]),
+    ("end", &[ACCEPTED, WRONG_PHASE, 12]),
+    ("convert", &[ACCEPTED, WRONG_PHASE]),
 ];
 
 pub fn compare(comparer: &mut Comparer, bases: &[Base], score: &mut Score) {
@@ -106,7 +106,7 @@ fn due(image: &Image) -> u32 {
     match edition {
         None => UNSOUND,
         _ if is_under_2014 && has(|one| one.marked) => UNSOUND,
-        _ if image.is_open == 1 => DAY_OPEN,
+        _ if image.is_open == 1 => WRONG_PHASE,
         _ if is_under_2014 && has(|one| one.expanded) => GROUP_EXPANDED,
         _ => ACCEPTED,
     }
