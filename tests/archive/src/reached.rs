@@ -23,8 +23,8 @@ pub const ANSWERS: [Range; 7] = [
 
 pub const CHECK: &[u32] = &[100, 101, 102, 103, UNSOUND, 2, 5, 14, 8];
 
-/// What accepted openings and ends put in: whether a product got new limits, and a group's event. And the editions of the
-/// images that were converted, and what else applied to those with a day open.
+/// What accepted openings and ends put in: whether a product got new limits, and a group's event. And the editions from
+/// which images were converted, and the refusal that applied beside 2 to a conversion refused with it.
 pub const OUTCOMES: [Range; 5] = [
     ("renewed", &[0, 1]),
     EVENTS[0],
