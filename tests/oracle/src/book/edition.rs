@@ -1,4 +1,4 @@
-//! The editions of the rule, by year. They differ at the end of a day alone.
+//! The editions of the rule, by year. Days of the two differ at their ends alone.
 
 #[derive(Clone, Copy, Debug, PartialEq, Eq)]
 pub enum Edition {
