@@ -15,7 +15,7 @@ use crate::compare::{different_word, Comparer};
 use crate::draw;
 use crate::images::name_of;
 use crate::odd;
-use crate::reached::{Range, Reached, CONVERTED, EVENTS, OVER_OPEN, OVER_UNSOUND, UNSOUND};
+use crate::reached::{Range, Reached, CONVERTED_FROM, EVENTS, OVER_OPEN, OVER_UNSOUND, UNSOUND};
 
 const SEED: u64 = 20_230_107;
 
@@ -93,7 +93,7 @@ fn of_every_kind(comparer: &mut Comparer, bases: &[Base], score: &mut Score) {
         }
     }
     score.all("conversions of images of every kind", &failures);
-    let wanted = [CONVERT, CONVERTED, OVER_UNSOUND, OVER_OPEN];
+    let wanted = [CONVERT, CONVERTED_FROM, OVER_UNSOUND, OVER_OPEN];
     let rare = reached.judge(&wanted, |_, times| times > 0);
     score.one("conversions reach every answer", rare);
 }
@@ -119,7 +119,7 @@ fn convert(comparer: &mut Comparer, image: &Image, reached: &mut Reached) -> Opt
     let mut expected = *image;
     if number == ACCEPTED {
         expected.edition = 2023;
-        reached.count(CONVERTED.0, image.edition);
+        reached.count(CONVERTED_FROM.0, image.edition);
     }
     reached.count(CONVERT.0, compared.number);
     if compared.number != ACCEPTED {

@@ -19,8 +19,8 @@ use crate::fields::{Field, PARTS};
 use crate::noise;
 use crate::odd;
 use crate::reached::{
-    Reached, ANSWERS, BACK_BY, BROUGHT_BACK, CONVERTED, ENDS, FIRST, LED_BY, NONE_FULL, OUTCOMES,
-    OVER_UNSOUND, SAME_SEASON, SKIPPED, TURNS, UNSOUND,
+    Reached, ANSWERS, BACK_BY, BROUGHT_BACK, CONVERTED_FROM, ENDS, FIRST, LED_BY, NONE_FULL,
+    OUTCOMES, OVER_UNSOUND, SAME_SEASON, SKIPPED, TURNS, UNSOUND,
 };
 use crate::values::wrong_values;
 
@@ -94,7 +94,7 @@ impl<'a> Run<'a> {
         match call {
             Call::Open(_) => self.note_opened(before, after),
             Call::End => self.note_ended(after),
-            Call::Convert => self.reached.count(CONVERTED.0, before.edition),
+            Call::Convert => self.reached.count(CONVERTED_FROM.0, before.edition),
             _ => {}
         }
     }

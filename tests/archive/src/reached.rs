@@ -29,11 +29,11 @@ pub const OUTCOMES: [Range; 5] = [
     ("renewed", &[0, 1]),
     EVENTS[0],
     EVENTS[1],
-    CONVERTED,
+    CONVERTED_FROM,
     OVER_OPEN,
 ];
 
-pub const CONVERTED: Range = ("converted from", &EDITIONS);
+pub const CONVERTED_FROM: Range = ("converted from", &EDITIONS);
 
 /// The refusals of a conversion that apply beside the one it got, by the book in the image.
 pub const OVER_UNSOUND: Range = ("convert, 1 over", &[2, 18]);
