@@ -1,7 +1,7 @@
 //! What books reached that a conversion carried from 2014 to 2023: by what they had before it, and by the rule after it.
 
 use super::event::{self, Event};
-use super::life::Since;
+use super::past::Since;
 use super::seasons::Turn;
 use super::{Coverage, Seen};
 use crate::book::edition_2014;
@@ -64,7 +64,7 @@ fn back_key(group: usize) -> String {
 
 /// Takes note of a call on a book that was carried.
 pub fn observe(coverage: &mut Coverage, call: &Call, seen: &Seen) {
-    let Some(since) = coverage.life.carried else {
+    let Some(since) = coverage.past.carried else {
         return;
     };
     match call {

@@ -123,25 +123,25 @@ fn observe_converted(coverage: &mut Coverage, book: &Book) {
 }
 
 fn observe_carried(coverage: &mut Coverage, book: &Book) {
-    let life = coverage.life.clone();
+    let past = coverage.past.clone();
     let holds = |count: usize| book.windows.iter().any(|window| window.len() == count);
     let facts = [
         (holds(LARGEST_WINDOW), "with a full window"),
         ((1..LARGEST_WINDOW).any(holds), "with 1 to 44 in a window"),
-        (life.has_season_limits, "with limits of a season"),
-        (life.refused.contains(&2), "after a refusal with 2"),
-        (life.refused.contains(&18), "after a refusal with 18"),
+        (past.has_season_limits, "with limits of a season"),
+        (past.refused.contains(&2), "after a refusal with 2"),
+        (past.refused.contains(&18), "after a refusal with 18"),
     ];
     for (happened, what) in facts {
         coverage.count_if(happened, &format!("convert: carried {what}"));
     }
-    for group in (0..GROUP_COUNT).filter(|&group| life.reverted[group]) {
+    for group in (0..GROUP_COUNT).filter(|&group| past.reverted[group]) {
         coverage.count(reverted_key(group));
     }
 }
 
 fn observe_kept(coverage: &mut Coverage, book: &Book) {
-    let since = coverage.life.carried;
+    let since = coverage.past.carried;
     let facts = [
         (
             !book.has_expanded_group(),

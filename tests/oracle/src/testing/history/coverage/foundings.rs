@@ -65,7 +65,7 @@ pub fn observe(coverage: &mut Coverage, call: &FoundCall, before: Option<&Book>,
             None => "found: founded",
             Some(_) => "found: founded afresh",
         });
-        if coverage.life.carried.is_some() {
+        if coverage.past.carried.is_some() {
             coverage.count(format!(
                 "found: founded under {} over a book that was carried",
                 call.edition

@@ -31,7 +31,7 @@ fn event_key(group: usize, event: &str) -> String {
 
 /// Takes note of a call between a conversion and the end of the day after it.
 pub fn observe(coverage: &mut Coverage, call: &Call, seen: &Seen) {
-    if !coverage.life.is_converted || seen.refusal().is_some() {
+    if !coverage.past.is_converted || seen.refusal().is_some() {
         return;
     }
     match call {

@@ -9,8 +9,8 @@ mod ends_2014;
 mod event;
 mod foundings;
 mod kept;
-mod life;
 mod openings;
+mod past;
 mod seasons;
 mod sheets;
 mod spans;
@@ -21,7 +21,7 @@ use crate::book::edition::EDITIONS;
 use crate::book::{Book, GROUP_COUNT, PRODUCT_COUNT};
 use crate::history::call::Call;
 use coupled::LastEnd;
-use life::Life;
+use past::Past;
 use seasons::Turn;
 
 #[derive(Clone, Default)]
@@ -34,7 +34,7 @@ pub struct Coverage {
     /// Groups whose mark was dropped by new limits, and that have not moved by E since.
     dropped_marks: [bool; GROUP_COUNT],
     last_end: LastEnd,
-    life: Life,
+    past: Past,
 }
 
 /// A call with the answer that the model gave, and the book before and after it.
@@ -117,7 +117,7 @@ impl Coverage {
         if let Some(seen) = &seen {
             carried::observe(self, call, seen);
             kept::observe(self, call, seen);
-            self.life.note(call, seen);
+            self.past.note(call, seen);
         }
     }
 

@@ -1,4 +1,4 @@
-//! The life of a book so far, by which conversions and the days after them are judged.
+//! What a book went through so far, by which conversions and the days after them are judged.
 
 use std::collections::BTreeSet;
 
@@ -9,7 +9,7 @@ use crate::history::call::Call;
 
 /// Since the founding.
 #[derive(Clone, Default)]
-pub struct Life {
+pub struct Past {
     /// A season gave a product new limits.
     pub has_season_limits: bool,
     /// Groups that reverted at the last end.
@@ -31,7 +31,7 @@ pub struct Since {
     pub collected: [usize; PRODUCT_COUNT],
 }
 
-impl Life {
+impl Past {
     /// Takes note of a call, after all others have.
     pub fn note(&mut self, call: &Call, seen: &Seen) {
         match (call, seen.refusal()) {
@@ -39,7 +39,7 @@ impl Life {
                 self.refused.insert(refusal);
             }
             (_, Some(_)) => {}
-            (Call::Found(_), None) => *self = Life::default(),
+            (Call::Found(_), None) => *self = Past::default(),
             (Call::Open(_), None) => self.note_opening(seen),
             (Call::End, None) => self.note_end(seen),
             (Call::Convert, None) => self.note_conversion(seen),
