@@ -27,14 +27,14 @@ const LIMITS: [u32; 8] = [200, 600, 250, 200, 240, 240, 160, 100];
 const PRICES: [u32; 8] = [3_600, 9_600, 4_500, 3_500, 4_480, 4_560, 2_800, 3_400];
 
 /// Windows are full after 45 of them; groups stand as they should on some day soon after.
-const LONGEST_LIFE: usize = 120;
+const MOST_DAYS: usize = 120;
 
 /// More seeds than any base needs.
 const SEEDS: u64 = 1_000;
 
 /// Six under the edition of 2023, and of the others three under that of 2014; the last five have the most in them.
 pub fn bases() -> Vec<Base> {
-    let [old, new] = EDITIONS.map(Life::under);
+    let [old, new] = EDITIONS.map(Stages::under);
     let mut random = Random::new(1);
     let first_day = opened(&new.fresh, first_day());
     let last_day = opened(&new.full, new.next);
@@ -56,7 +56,7 @@ pub fn bases() -> Vec<Base> {
 }
 
 /// A book under an edition, when it was fresh, once it was full, and on the day after.
-struct Life {
+struct Stages {
     fresh: Book,
     full: Book,
     /// The place of the day after.
@@ -64,12 +64,12 @@ struct Life {
     all_in: Book,
 }
 
-impl Life {
-    fn under(edition: u32) -> Life {
+impl Stages {
+    fn under(edition: u32) -> Stages {
         let fresh = Book::found(edition, LIMITS).expect("fit limits");
         let (full, next) = first_of_seeds(|random| live(random, &fresh, first_day()));
         let all_in = first_of_seeds(|random| all_in(random, &full, next));
-        Life {
+        Stages {
             fresh,
             full,
             next,
@@ -115,7 +115,7 @@ fn first_of_seeds<T>(draw: impl Fn(&mut Random) -> Option<T>) -> T {
 fn live(random: &mut Random, fresh: &Book, first: usize) -> Option<(Book, usize)> {
     let mut book = fresh.clone();
     let mut day = first;
-    for _ in 0..LONGEST_LIFE {
+    for _ in 0..MOST_DAYS {
         if is_full(&book) {
             return Some((book, day));
         }
@@ -169,12 +169,12 @@ fn opened(book: &Book, day: usize) -> Book {
 }
 
 /// The full book after one more day, on which contracts hardly moved.
-fn calmed(random: &mut Random, life: &Life) -> Book {
+fn calmed(random: &mut Random, stages: &Stages) -> Book {
     let calm = Market {
         phase: Phase::Calm,
         ..market()
     };
-    let mut book = filed_by(&calm, random, &opened(&life.full, life.next), 8);
+    let mut book = filed_by(&calm, random, &opened(&stages.full, stages.next), 8);
     book.end().expect("all sheets are in");
     assert!(!book.has_expanded_group());
     book
