@@ -32,7 +32,7 @@ const MOST_DAYS: usize = 120;
 /// More seeds than any base needs.
 const SEEDS: u64 = 1_000;
 
-/// Six under the edition of 2023, and of the others three under that of 2014; the last five have the most in them.
+/// Six under the edition of 2023 and three under that of 2014; the last five have the most in them.
 pub fn bases() -> Vec<Base> {
     let [old, new] = EDITIONS.map(Stages::under);
     let mut random = Random::new(1);
