@@ -59,7 +59,8 @@ pub struct Days {
     pub answers: Vec<u8>,
 }
 
-struct Course {
+/// Call after call on a book, and the days that they have made so far.
+struct Walk {
     random: Random,
     market: Market,
     days: Days,
@@ -73,28 +74,28 @@ pub fn all_days(life: Life, checks: usize) -> Days {
 
 /// The history of the first days.
 pub fn days(life: Life, checks: usize, count: usize) -> Days {
-    let mut course = Course {
+    let mut walk = Walk {
         random: Random::new(SEED),
         market: market(),
         days: Days::default(),
         book: None,
     };
-    course.call(Call::Found(FoundCall {
+    walk.call(Call::Found(FoundCall {
         edition: life.first_edition(),
         limits: LIMITS,
     }));
     let converts_before = (life == Life::Carried).then_some(count / 2);
     for (day, &date) in calendar().days.iter().take(count).enumerate() {
         if converts_before == Some(day) {
-            course.call(Call::Convert);
+            walk.call(Call::Convert);
         }
-        course.market.phase = match converts_before == Some(day + 1) {
+        walk.market.phase = match converts_before == Some(day + 1) {
             true => Phase::Calm,
             false => Phase::Middle,
         };
-        course.day(date, checks);
+        walk.day(date, checks);
     }
-    course.days
+    walk.days
 }
 
 fn market() -> Market {
@@ -114,7 +115,7 @@ fn market() -> Market {
     }
 }
 
-impl Course {
+impl Walk {
     fn call(&mut self, call: Call) {
         let answer = answer::answer(&mut self.book, &call);
         assert!(!answer.starts_with("refused"), "{call:?}: {answer}");

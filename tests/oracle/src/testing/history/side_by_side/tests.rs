@@ -173,7 +173,7 @@ fn both_sides_are_under_the_pairs_edition_and_several_are_carried() {
 }
 
 /// The openings, ends and conversions that a side accepted, in their order.
-fn course(answers: &str) -> Vec<&str> {
+fn milestones(answers: &str) -> Vec<&str> {
     let words = answers.lines().filter_map(|line| line.split(' ').next());
     let accepted = words.filter(|word| [OPENED, "ended", CONVERTED].contains(word));
     accepted.collect()
@@ -184,7 +184,7 @@ fn both_sides_accept_conversions_at_the_same_places() {
     for group in 0..GROUP_COUNT {
         let mut converted = 0;
         for answered in pairs(group) {
-            let [first, second] = answered.texts().map(course);
+            let [first, second] = answered.texts().map(milestones);
             assert_eq!(first, second);
             let is_under_2023 = answered.pair.edition == 2023;
             converted += usize::from(is_under_2023 && first.contains(&CONVERTED));
