@@ -1,4 +1,4 @@
-//! What conversions reached: refusals in order, and the books that were carried or stayed as they were.
+//! What conversions reached: refusals in order, and the books that were carried or left unchanged.
 
 use super::{Coverage, Seen};
 use crate::book::edition::EDITIONS;
@@ -29,7 +29,7 @@ const OF_EDITION: [&str; 4] = [
     "accepted after an end",
 ];
 
-/// How a group stands in a book under 2023 that stays as it is.
+/// How a group stands in a book under 2023, which is left unchanged.
 const STANDINGS: [&str; 2] = ["expanded", "marked"];
 
 pub fn wanted() -> Vec<String> {
@@ -38,10 +38,10 @@ pub fn wanted() -> Vec<String> {
         .into_iter()
         .flat_map(|edition| OF_EDITION.map(|what| edition_key(edition, what)));
     let groups = (0..GROUP_COUNT).flat_map(|group| {
-        let kept = STANDINGS.map(|standing| kept_key(group, standing));
+        let unchanged = STANDINGS.map(|standing| unchanged_key(group, standing));
         [expanded_key(group), reverted_key(group)]
             .into_iter()
-            .chain(kept)
+            .chain(unchanged)
     });
     fixed.chain(editions).chain(groups).collect()
 }
@@ -58,7 +58,7 @@ fn reverted_key(group: usize) -> String {
     format!("convert: carried with group {group} reverted at the last end")
 }
 
-fn kept_key(group: usize, standing: &str) -> String {
+fn unchanged_key(group: usize, standing: &str) -> String {
     format!("convert: accepted under 2023 with group {group} {standing}")
 }
 
@@ -118,7 +118,7 @@ fn observe_converted(coverage: &mut Coverage, book: &Book) {
     coverage.count(edition_key(book.edition, what));
     match book.edition {
         2014 => observe_carried(coverage, book),
-        _ => observe_kept(coverage, book),
+        _ => observe_unchanged(coverage, book),
     }
 }
 
@@ -140,7 +140,7 @@ fn observe_carried(coverage: &mut Coverage, book: &Book) {
     }
 }
 
-fn observe_kept(coverage: &mut Coverage, book: &Book) {
+fn observe_unchanged(coverage: &mut Coverage, book: &Book) {
     let since = coverage.past.carried;
     let facts = [
         (
@@ -161,6 +161,6 @@ fn observe_kept(coverage: &mut Coverage, book: &Book) {
     }
     for group in expanded_groups(book) {
         let is_marked = book.standings[group].marked;
-        coverage.count(kept_key(group, STANDINGS[usize::from(is_marked)]));
+        coverage.count(unchanged_key(group, STANDINGS[usize::from(is_marked)]));
     }
 }

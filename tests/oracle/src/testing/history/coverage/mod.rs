@@ -8,12 +8,12 @@ mod ends;
 mod ends_2014;
 mod event;
 mod foundings;
-mod kept;
 mod openings;
 mod past;
 mod seasons;
 mod sheets;
 mod spans;
+mod unchanged;
 
 use std::collections::BTreeMap;
 
@@ -116,7 +116,7 @@ impl Coverage {
         }
         if let Some(seen) = &seen {
             carried::observe(self, call, seen);
-            kept::observe(self, call, seen);
+            unchanged::observe(self, call, seen);
             self.past.note(call, seen);
         }
     }
@@ -181,7 +181,7 @@ pub fn wanted() -> Vec<String> {
         .chain(ends_2014::wanted())
         .chain(conversions::wanted())
         .chain(carried::wanted())
-        .chain(kept::wanted())
+        .chain(unchanged::wanted())
         .chain(coupled::wanted())
         .chain(checks::wanted())
         .chain(spans::wanted())

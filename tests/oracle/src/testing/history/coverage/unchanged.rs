@@ -1,4 +1,4 @@
-//! What days reached at once after a conversion that changed nothing: levels and marks pass through it.
+//! What days reached at once after a conversion that left the book unchanged: levels and marks pass through it.
 
 use super::event;
 use super::seasons::Turn;
