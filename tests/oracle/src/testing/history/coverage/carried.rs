@@ -143,7 +143,7 @@ fn observe_sheet(coverage: &mut Coverage, seen: &Seen) {
 
 fn observe_check(coverage: &mut Coverage, seen: &Seen) {
     if seen.refusal().is_none() {
-        let kind = seen.answer.split(':').next().unwrap_or_default();
+        let kind = seen.kind();
         coverage.count(format!("check: {kind} by a sheet of before a conversion"));
     }
 }

@@ -3,7 +3,7 @@
 use super::coupled::{coupled_products, is_widened_by_others};
 use super::seasons::Turn;
 use super::spans::Limited;
-use super::{refusal, Coverage, Seen};
+use super::{kind, refusal, Coverage, Seen};
 use crate::amounts::{self, LARGEST_LIMIT};
 use crate::book::groups::group_of;
 use crate::book::{Book, Level};
@@ -194,7 +194,7 @@ fn observe_limited(coverage: &mut Coverage, numbers: &[u32; 4], seen: &Seen) {
     let number = numbers[0] as usize;
     let book = seen.before;
     let order = limited(numbers, book);
-    let verdict = kind(seen.answer);
+    let verdict = seen.kind();
     order.observe(coverage, verdict);
     let level = match book.standings[group_of(number)].level {
         Level::Initial => "initial level",
@@ -233,11 +233,6 @@ fn observe_between(coverage: &mut Coverage, book: &Book, number: usize, verdict:
         }),
         _ => {}
     }
-}
-
-/// The word of a verdict, without its span.
-fn kind(answer: &str) -> &str {
-    answer.split(':').next().unwrap_or(answer)
 }
 
 pub fn observe_bare(coverage: &mut Coverage, numbers: &[u32; 6], answer: &str) {

@@ -58,10 +58,20 @@ impl<'a> Seen<'a> {
     pub fn refusal(&self) -> Option<u32> {
         refusal(self.answer)
     }
+
+    /// The kind of a check's answer.
+    pub fn kind(&self) -> &'a str {
+        kind(self.answer)
+    }
 }
 
 fn refusal(answer: &str) -> Option<u32> {
     answer.strip_prefix("refused ")?.parse().ok()
+}
+
+/// The words before a span.
+fn kind(answer: &str) -> &str {
+    answer.split(':').next().unwrap_or_default()
 }
 
 impl Coverage {

@@ -61,7 +61,7 @@ fn observe_opened(coverage: &mut Coverage, seen: &Seen) {
 }
 
 fn observe_checked(coverage: &mut Coverage, product: usize, seen: &Seen) {
-    let kind = seen.answer.split(':').next().unwrap_or_default();
+    let kind = seen.kind();
     if kind != "free" && seen.before.standings[group_of(product)].level == Level::Expanded {
         coverage.count(format!("check: {kind} E by a level of before a conversion"));
     }
