@@ -1,5 +1,6 @@
 //! What books reached that a conversion carried from 2014 to 2023: by what they had before it, and by the rule after it.
 
+use super::ends::event_key;
 use super::event::{self, Event};
 use super::past::Since;
 use super::seasons::Turn;
@@ -48,10 +49,6 @@ pub fn wanted() -> Vec<String> {
         (0..PRODUCT_COUNT).flat_map(|product| WINDOWS.map(|from| window_key(product, from)));
     let back = (0..GROUP_COUNT).map(back_key);
     fixed.chain(events).chain(windows).chain(back).collect()
-}
-
-fn event_key(group: usize, what: &str) -> String {
-    format!("end: group {group} {what}")
 }
 
 fn window_key(product: usize, from: &str) -> String {

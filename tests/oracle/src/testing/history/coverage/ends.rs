@@ -66,7 +66,8 @@ pub fn wanted() -> Vec<String> {
     fixed.chain(events).chain(edges).chain(windows).collect()
 }
 
-fn event_key(group: usize, what: &str) -> String {
+/// Of a group under the edition of 2023.
+pub fn event_key(group: usize, what: &str) -> String {
     format!("end: group {group} {what}")
 }
 
