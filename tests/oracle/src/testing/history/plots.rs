@@ -33,6 +33,7 @@ const fn beside(own: Picks, others: Picks) -> Plot {
 /// Those that trigger by as little as can be.
 pub const TRIGGERS: [Plot; 2] = [alone(TWO), alone(CROP_MONTH)];
 
+/// Two that trigger nothing stand twice, so that they are drawn twice as often.
 pub const ALL: [Plot; 20] = [
     alone(TWO),
     alone(CROP_MONTH),
