@@ -140,9 +140,9 @@ impl Side {
                 return self.call_refused(&Call::Sheet(sheet));
             }
             (2, _) => return self.call_refused(&Call::End),
-            (5, _) => Call::Convert,
-            (3, _) => stray::bare(&mut self.random),
-            (4, _) => Call::Check(stray::false_order(&mut self.random, book)),
+            (3, _) => Call::Convert,
+            (4, _) => stray::bare(&mut self.random),
+            (5, _) => Call::Check(stray::false_order(&mut self.random, book)),
             _ => Call::Check(stray::order(&mut self.random, book)),
         };
         self.call(&call);
