@@ -32,7 +32,7 @@ without_checks() {
 # The book of each history in one go, with the answers of replay; the first is what the restarts are held against.
 saved_answers() {
     local file
-    for file in "$history" examples/{spot,wheats,carried,year}.history; do
+    for file in "$history" examples/{spot,wheats,corn2014,carried,year}.history; do
         writer "$out/$(basename "$file").image" < "$file" > "$out/answers.txt" || return
         diff <(without_checks "$file" | "$replay") "$out/answers.txt" || return
     done
