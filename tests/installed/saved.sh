@@ -29,7 +29,7 @@ without_checks() {
     grep -v '^check \|^bare \|^book$' "$1"
 }
 
-# The book of each history in one go, with the answers of replay; the first is what the restarts are held against.
+# The book of each history in one go, with the answers of replay; restarts are held against it.
 saved_answers() {
     local file
     for file in "$history" examples/{spot,wheats,corn2014,carried,year}.history; do
@@ -43,16 +43,24 @@ saved_checks() {
 }
 
 same_as_uninterrupted() {
-    cmp "$out/complex.history.image" "$1"
+    cmp "$out/$(basename "$history").image" "$1"
+}
+
+# The writer ended after each of these lines of the history, and run to the end: ended_after IMAGE LINE..
+ended_after() {
+    local image=$1 from=1 to
+    shift
+    : > "$out/answers.txt"
+    for to in "$@" "$(wc -l < "$history")"; do
+        sed -n "$from,${to}p" "$history" | writer "$image" >> "$out/answers.txt" || return
+        from=$((to + 1))
+    done
+    diff <(without_checks "$history" | "$replay") "$out/answers.txt" && same_as_uninterrupted "$image"
 }
 
 # Ended between two sheets of a day, then between two days.
 saved_ended() {
-    local image=$out/ended.image
-    head -n 103 "$history" | writer "$image" > "$out/answers.txt" || return
-    sed -n 104,333p "$history" | writer "$image" >> "$out/answers.txt" || return
-    tail -n +334 "$history" | writer "$image" >> "$out/answers.txt" || return
-    diff <(without_checks "$history" | "$replay") "$out/answers.txt" && same_as_uninterrupted "$image"
+    ended_after "$out/ended.image" 103 333
 }
 
 # Makes rest.txt, the history from the opening of the day at which the saved book stands, by the writer's own word.
@@ -65,6 +73,20 @@ make_rest() {
     else
         sed -n "/^open $day /,\$p" "$history" > "$out/rest.txt"
     fi
+}
+
+# Ended when 16 May has, and fed that day again without the conversion that it refused: every call of it is refused.
+fed_again() {
+    local image=$1
+    head -n 54 "$history" | writer "$image" > "$out/answers.txt" && make_rest "$image" || return
+    sed 2d "$out/rest.txt" | writer "$image" > "$out/answers.txt" || return
+    diff <(printf 'refused %d\n' 4 2 2 2 2 2 2 2 2 2) <(head -n 10 "$out/answers.txt") && same_as_uninterrupted "$image"
+}
+
+# Across a conversion: ended between two sheets of the day that refuses one, then right after the first that is accepted.
+saved_carried() {
+    local history=examples/carried.history
+    ended_after "$out/carried.image" 49 57 && fed_again "$out/fed-again.image"
 }
 
 # Gives the writer 150 lines, and kills it while it is busy with them.
@@ -293,6 +315,7 @@ saved() {
     single saved-answers saved_answers
     single saved-checks saved_checks
     single saved-ended saved_ended
+    single saved-carried saved_carried
     single saved-killed saved_killed
     single saved-two-gateways saved_two_gateways
     single saved-busy saved_busy
