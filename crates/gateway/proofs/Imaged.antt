@@ -21,14 +21,15 @@ use Rattle.record.specs.Theorems.{after, history_of, is_refusal}
 use Rattle.record.proofs.Proved.{theorems}
 use Rattle.book.specs.Book.{view}
 use Rattle.book.proofs.SoundnessFirst.{unsound-refusal}
-use Rattle.book.proofs.Unfounded.{no_book-unsound}
+use Rattle.book.proofs.Unfounded.{no_book-unsound, no_book_refuses}
 use Rattle.history.specs.Trace.{Trace, done, more}
+use Rattle.history.proofs.Shows.{list_shows}
 use Rattle.history.proofs.Agrees as agrees
 use Rattle.image.specs.Image.{is_image, book_in}
 use Rattle.image.specs.Answers.{renewed_in, events_in}
 use Rattle.gateway.specs.Calls.{answer_number, renewed_after, events_after, answer_to, image_answer, RespondsImage, answer_span, with_span, image_check, no_renewed, no_events}
 use Rattle.gateway.specs.declared.spans.Spanned.{Spanned}
-use Rattle.gateway.specs.Images.{Seen, sees, seen_of, ImageStep, changes, checks, spans, ImageRun, ResentImage, WholeImages, NoImage}
+use Rattle.gateway.specs.Images.{Seen, sees, seen_of, ImageStep, changes, converts, checks, spans, ImageRun, ResentImage, WholeImages, NoImage}
 use Rattle.gateway.proofs.Numbers.{number_of, accepted_by}
 
 -- ---- one call
@@ -60,27 +61,27 @@ asked ws p size month price n e =
 
 stepped : {ws now : List ℕ} {c : Call} {v : Seen} → ImageStep ws c v now → Stepped ws c v now
 stepped (changes n r) = changed _ _ _ n r
+stepped (converts n r) = changed _ _ _ n r.responds
 stepped (checks n e) = asked _ _ _ _ _ n e
 stepped (spans r e) = asked _ _ _ _ _ r.answer (ap (λ (r : Spanned). r.answer) e)
 
 -- ---- one list
-record Follows (ws : List ℕ) (cs : List Call) (vs : List Seen) (z : List ℕ) : Type 0 where
-  seen : vs ≡ seen_of (renewed_in ws) (events_in ws) (answers (view (book_in ws)) cs)
-  contents : view (book_in z) ≡ state_after (view (book_in ws)) cs
+more_seen : {ws now : List ℕ} {c : Call} {v : Seen} (cs : List Call) {vs : List Seen}
+    → Stepped ws c v now → vs ≡ seen_of (renewed_in now) (events_in now) (answers (view (book_in now)) cs)
+    → v ∷ vs ≡ seen_of (renewed_in ws) (events_in ws) (answers (view (book_in ws)) (c ∷ cs))
+unfolding answers seen_of
+more_seen {ws} {now} {c} cs r e =
+    rw (r.seen, ← r.state, ← r.renewed, ← r.events) (ap (λ l. sees (answer_number (answer_to ws c)) now ∷ l) e)
 
-one_more : {ws now z : List ℕ} {c : Call} {v : Seen} {cs : List Call} {vs : List Seen}
-    → Stepped ws c v now → Follows now cs vs z → Follows ws (c ∷ cs) (v ∷ vs) z
-unfolding answers state_after seen_of
-one_more {ws} {now} {z} {c} {v} {cs} {vs} r f =
-    record {
-      seen = rw (r.seen, ← r.state, ← r.renewed, ← r.events) (ap (λ l. sees (answer_number (answer_to ws c)) now ∷ l) f.seen);
-      contents = rw (← r.state) f.contents;
-    }
+seen : {ws z : List ℕ} {cs : List Call} {vs : List Seen} → Trace ImageStep ws cs vs z
+    → vs ≡ seen_of (renewed_in ws) (events_in ws) (answers (view (book_in ws)) cs)
+unfolding answers seen_of
+seen done = refl
+seen (more s t) = more_seen _ (stepped s) (seen t)
 
-follows : {ws z : List ℕ} {cs : List Call} {vs : List Seen} → Trace ImageStep ws cs vs z → Follows ws cs vs z
-unfolding answers state_after seen_of
-follows done = record { seen = refl; contents = refl }
-follows (more s t) = one_more (stepped s) (follows t)
+contents : {ws z : List ℕ} {cs : List Call} {vs : List Seen} → Trace ImageStep ws cs vs z
+    → view (book_in z) ≡ state_after (view (book_in ws)) cs
+contents = list_shows ImageStep (λ ws. view (book_in ws)) (λ ws now c v s. (stepped s).state)
 
 module _ (s : Start) (cs : List Call) (vs : List Seen) (z : List ℕ) (run : ImageRun s cs vs z) where
   is_founded : founding_refusal s ≡ None
@@ -90,13 +91,13 @@ module _ (s : Start) (cs : List Call) (vs : List Seen) (z : List ℕ) (run : Ima
   seen_is =
       let f = run.founds in
       let ws = run.fresh in
-      (follows run.trace).seen
+      seen run.trace
       ∙ ap (λ (r : Record). seen_of (renewed_in ws) (events_in ws) (answers r cs)) (f.state is_founded)
       ∙ ap (λ rs. seen_of rs (events_in ws) (answers (founded s) cs)) (f.renewed is_founded)
       ∙ ap (λ es. seen_of no_renewed es (answers (founded s) cs)) (f.events is_founded)
 
   contents_are : view (book_in z) ≡ after s cs
-  contents_are = (follows run.trace).contents ∙ ap (λ (r : Record). state_after r cs) (run.founds.state is_founded)
+  contents_are = contents run.trace ∙ ap (λ (r : Record). state_after r cs) (run.founds.state is_founded)
 
   -- a verdict with a span, sent again at its ends
   module _ (p size month price : ℕ) where
@@ -154,7 +155,7 @@ whole_images =
       resent = λ s cs vs z run p size month price. resends s cs vs z run p size month price _ refl;
       stays_free =
           λ s cs ds us vs y z one other.
-          agrees.stays_free s (is_founded s cs us y one) cs ds (book_in y) (book_in z) (contents_are s cs us y one) (contents_are s _ vs z other);
+          agrees.stays_free s cs ds (book_in y) (book_in z) (contents_are s cs us y one) (contents_are s _ vs z other);
       same_day = same_day;
       same_group = same_group;
       same_spans = λ s g cs ds us vs y z one other same p size month price e. ap with_span (same_answers s g cs ds us vs y z one other same p size month price e);
@@ -168,8 +169,8 @@ module _ (ws : List ℕ) (no : is_image ws ≡ false) where
   no_sound = rw no no_book-unsound
 
   unsound-answer : (c : Call) → answer_to ws c ≡ refused unsound
-  unfolding respond
-  unsound-answer c = rw (unsound-refusal (view (book_in ws)) c no_sound)
+  unfolding book_in respond
+  unsound-answer c = rw no (no_book_refuses c)
 
 pub no_image : NoImage
 no_image =

@@ -1,22 +1,22 @@
 -- A change of the book in words, refused or accepted: what gives all that the call by pointer promises.
 use Prim.Native.Nat.{ℕ}
 use mathlib.Core.Path.{◌≡◌, refl, sym, ◌∙◌, ap}
-use mathlib.Core.Bool.{Bool, true, false}
+use mathlib.Core.Bool.{true}
 use mathlib.Core.List.{List}
-use Rattle.std.specs.Prelude.{Option, Some, None, Result, Ok, Err}
+use Rattle.std.specs.Prelude.{None, Result, Ok, Err}
 use Rattle.std.specs.Borrow.{Bor, MutBor}
 use Rattle.grain.specs.Refusals.{number_of}
 use Rattle.grain.specs.declared.refusals.Refusal.{Refusal}
 use Rattle.record.specs.State.{Record}
 use Rattle.record.specs.Founding.{Start}
 use Rattle.record.specs.Sound.{is_sound}
-use Rattle.record.specs.Record.{Change, change, Accepted, refused, accepted, refusal, answer, next_by, answer_by, respond}
+use Rattle.record.specs.Record.{Change, change, Accepted, refused, accepted, refusal, answer, respond}
+use Rattle.record.proofs.Cleared.{accepted_clear, refused_with, accepted_with}
 use Rattle.record.proofs.StaysSound.{founded_sound, respond_sound}
 use Rattle.book.specs.declared.Book.{Book}
 use Rattle.book.specs.Book.{view}
 use Rattle.book.specs.Calls.{Responds, answer_as}
 use Rattle.book.specs.Founding.{Founds}
-use Rattle.book.proofs.SoundnessFirst.{unsound-refusal}
 use Rattle.image.specs.Image.{book_in}
 use Rattle.image.specs.Answers.{renewed_in, events_in}
 use Rattle.image.specs.Put.{Put}
@@ -24,13 +24,9 @@ use Rattle.gateway.specs.Written.{Writes}
 use Rattle.gateway.specs.Calls.{answer_number, renewed_after, events_after, RespondsImage, no_renewed, no_events, FoundsImage}
 
 -- what answers a refusal is refused, and changes nothing
-stays_by : (o : Option ℕ) (r : Record) (c : Change) (n : ℕ) → refused n ≡ answer_by o (answer r (change c)) → r ≡ next_by o r c
-stays_by (Some m) r c n e = refl
-stays_by None r c n e = cc
-
 refused_stays : (r : Record) (c : Change) (n : ℕ) → refused n ≡ (respond r (change c)).answer → r ≡ (respond r (change c)).state
 unfolding respond
-refused_stays r c n e = stays_by (refusal r (change c)) r c n e
+refused_stays r c n e = rw (refused_with n (refusal r (change c)) (answer r (change c)) e)
 
 -- so that it is not accepted
 pub not_accepted : (ws : List ℕ) (c : Change) (n : ℕ) (z : Book) → Responds (book_in ws) c (refused n) z → refusal (view (book_in ws)) (change c) ≡ None → ⊥
@@ -48,25 +44,13 @@ refused_image ws c n z r =
     }
 
 -- what answers no refusal is not refused
-none-by : (o : Option ℕ) (a b : Accepted) → accepted a ≡ answer_by o b → o ≡ None
-none-by (Some m) a b e = cc
-none-by None a b e = refl
-
 module _ (ws : List ℕ) (c : Change) (a : Accepted) (z : Book) (r : Responds (book_in ws) c (accepted a) z) where
-  not_refused : refusal (view (book_in ws)) (change c) ≡ None
+  pub not_refused : refusal (view (book_in ws)) (change c) ≡ None
   unfolding respond
-  not_refused = none-by (refusal (view (book_in ws)) (change c)) a (answer (view (book_in ws)) (change c)) r.answer
-
-  -- an unsound book refuses every call
-  sound_before : is_sound (view (book_in ws)) ≡ true
-  sound_before = by (is_sound (view (book_in ws))) refl
-    where
-      by : (t : Bool) → is_sound (view (book_in ws)) ≡ t → t ≡ true
-      by true e = refl
-      by false e = cc (not_refused, unsound-refusal (view (book_in ws)) (change c) e)
+  not_refused = (accepted_with (refusal (view (book_in ws)) (change c)) a (answer (view (book_in ws)) (change c)) r.answer).0
 
   pub sound_after : is_sound (view z) ≡ true
-  sound_after = rw r.state (respond_sound (view (book_in ws)) (change c) sound_before)
+  sound_after = rw r.state (respond_sound (view (book_in ws)) (change c) (accepted_clear (view (book_in ws)) (change c) not_refused).0)
 
   -- the words that hold the book after it, and its answers beside it
   pub holding_image : (now : List ℕ) → answer_number (accepted a) ≡ 0 → book_in now ≡ z

@@ -9,7 +9,7 @@ use Rattle.grain.specs.declared.check.Verdict.TheVariants.{Free}
 use Rattle.record.specs.Refusals.{unsound}
 use Rattle.record.specs.State.{group_of, group_at}
 use Rattle.record.specs.Founding.{Start, founded}
-use Rattle.record.specs.Record.{Change, check, Call, change, question, checked, Answer, accepted, answers}
+use Rattle.record.specs.Record.{Change, convert, check, Call, change, question, checked, Answer, accepted, answers}
 use Rattle.record.specs.History.{SameFor}
 use Rattle.record.specs.Theorems.{after, history_of, check_after, Together, BetweenLimits}
 use Rattle.book.specs.Book.{view}
@@ -17,7 +17,7 @@ use Rattle.history.specs.Trace.{Trace}
 use Rattle.history.specs.Whole.{SameContents}
 use Rattle.image.specs.Image.{is_image, book_in}
 use Rattle.image.specs.Answers.{renewed_in, events_in}
-use Rattle.gateway.specs.Calls.{answer_number, renewed_after, events_after, image_answer, RespondsImage, image_check, with_span, image_span, no_renewed, no_events, FoundsImage}
+use Rattle.gateway.specs.Calls.{answer_number, renewed_after, events_after, image_answer, RespondsImage, ConvertsImage, image_check, with_span, image_span, no_renewed, no_events, FoundsImage}
 use Rattle.gateway.specs.declared.spans.Spanned.{Spanned}
 
 -- what a C program sees of a call: the number that it returns, and what then stands in renewed and events
@@ -36,9 +36,11 @@ seen_of rs es (a ∷ l) =
     record { number = answer_number a; renewed = renewed_after a rs; events = events_after a es }
     ∷ seen_of (renewed_after a rs) (events_after a es) l
 
--- One call on an image, by its contract; a conversion's says more (ConvertsImage).
+-- One call on an image, by its contract.
 pub data ImageStep : List ℕ → Call → Seen → List ℕ → Type 0 where
+  -- an opening, a sheet or an end
   changes : {ws now : List ℕ} {c : Change} (n : ℕ) → RespondsImage ws c n now → ImageStep ws (change c) (sees n now) now
+  converts : {ws now : List ℕ} (n : ℕ) → ConvertsImage ws n now → ImageStep ws (change convert) (sees n now) now
   checks : {ws : List ℕ} {p size month price : ℕ} (n : ℕ)
       → n ≡ image_check ws p size month price → ImageStep ws (question (check p size month price)) (sees n ws) ws
   spans : {ws : List ℕ} {p size month price : ℕ} (r : Spanned)

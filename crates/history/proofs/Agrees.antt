@@ -66,10 +66,10 @@ module _ (s : Start) (cs : List Call) (z : Book) (is : view z ≡ after s cs) wh
       rw is (theorems.resent s cs p size month price v allowed (answered p size month price ∙ e) has)
 
 -- ---- a book, and one after further calls
-pub stays_free : (s : Start) → founding_refusal s ≡ None → (cs ds : List Call) (y z : Book) → view y ≡ after s cs → view z ≡ after s (cs ++ ds)
+pub stays_free : (s : Start) (cs ds : List Call) (y z : Book) → view y ≡ after s cs → view z ≡ after s (cs ++ ds)
     → (p q i j month x w : ℕ) (v : Verdict) → book_answer y p i month x ≡ accepted (checked Free) → book_answer z q j month w ≡ accepted (checked v) → v ≡ Free
-stays_free s is_founded cs ds y z one other p q i j month x w v e h =
-    theorems.stays_free s is_founded cs ds p q i j month x w v (answered s cs y one p i month x ∙ e) (answered s (cs ++ ds) z other q j month w ∙ h)
+stays_free s cs ds y z one other p q i j month x w v e h =
+    theorems.stays_free s cs ds p q i j month x w v (answered s cs y one p i month x ∙ e) (answered s (cs ++ ds) z other q j month w ∙ h)
 
 -- ---- two books
 module _ (s : Start) (g : ℕ) (cs ds : List Call) (y z : Book) (one : view y ≡ after s cs) (other : view z ≡ after s ds)

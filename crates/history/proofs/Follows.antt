@@ -6,6 +6,7 @@ use Rattle.book.specs.Book.{view}
 use Rattle.book.specs.Calls.{Responds}
 use Rattle.history.specs.Step.{Step, opens, files, ends, converts, checks}
 use Rattle.history.specs.Trace.{Trace, done, more}
+use Rattle.history.proofs.Shows.{list_shows}
 
 -- one call
 record Stepped (b : Book) (c : Call) (a : Answer) (y : Book) : Type 0 where
@@ -24,16 +25,15 @@ stepped (converts r s) = changed s.responds
 stepped (checks r s) = record { answer = s; state = refl }
 
 -- a list
-pub record Follows (b : Book) (cs : List Call) (rs : List Answer) (z : Book) : Type 0 where
-  pub answered : rs ≡ answers (view b) cs
-  pub contents : view z ≡ state_after (view b) cs
+more_answered : {b y : Book} {c : Call} {a : Answer} (cs : List Call) {rs : List Answer}
+    → Stepped b c a y → rs ≡ answers (view y) cs → a ∷ rs ≡ answers (view b) (c ∷ cs)
+unfolding answers
+more_answered cs s e = rw (← s.state) (cc (s.answer, e))
 
-one_more : {b y z : Book} {c : Call} {a : Answer} {cs : List Call} {rs : List Answer}
-    → Stepped b c a y → Follows y cs rs z → Follows b (c ∷ cs) (a ∷ rs) z
-unfolding answers state_after
-one_more s f = record { answered = rw (← s.state) (cc (s.answer, f.answered)); contents = rw (← s.state) f.contents }
+pub answered : {b z : Book} {cs : List Call} {rs : List Answer} → Trace Step b cs rs z → rs ≡ answers (view b) cs
+unfolding answers
+answered done = refl
+answered (more s t) = more_answered _ (stepped s) (answered t)
 
-pub follows : {b z : Book} {cs : List Call} {rs : List Answer} → Trace Step b cs rs z → Follows b cs rs z
-unfolding answers state_after
-follows done = record { answered = refl; contents = refl }
-follows (more s t) = one_more (stepped s) (follows t)
+pub contents : {b z : Book} {cs : List Call} {rs : List Answer} → Trace Step b cs rs z → view z ≡ state_after (view b) cs
+contents = list_shows Step view (λ b y c a s. (stepped s).state)

@@ -1,5 +1,5 @@
+pub mod Shows
 pub mod Agrees
 pub mod Follows
 pub mod Proved
 pub mod Ties
-pub mod Numbered

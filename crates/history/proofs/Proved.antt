@@ -20,7 +20,7 @@ use Rattle.book.specs.Book.{view}
 use Rattle.checking.specs.Checks.{checked_as, Checks}
 use Rattle.history.specs.Whole.{Run, WholeHistory}
 use Rattle.history.proofs.Agrees as agrees
-use Rattle.history.proofs.Follows.{follows}
+use Rattle.history.proofs.Follows.{answered, contents}
 
 -- ---- one list
 module _ (s : Start) (cs : List Call) (rs : List Answer) (z : Book) (run : Run s cs rs z) where
@@ -31,10 +31,10 @@ module _ (s : Start) (cs : List Call) (rs : List Answer) (z : Book) (run : Run s
   fresh_is = run.founds.1
 
   answers_are : rs ≡ answers (founded s) cs
-  answers_are = (follows run.trace).answered ∙ ap (λ (r : Record). answers r cs) fresh_is
+  answers_are = answered run.trace ∙ ap (λ (r : Record). answers r cs) fresh_is
 
   contents_are : view z ≡ after s cs
-  contents_are = (follows run.trace).contents ∙ ap (λ (r : Record). state_after r cs) fresh_is
+  contents_are = contents run.trace ∙ ap (λ (r : Record). state_after r cs) fresh_is
 
   history_is : kept cs rs ≡ history_of s cs
   history_is = ap (kept cs) answers_are
@@ -63,7 +63,7 @@ coupled s cs rs z run p q i j m n x y v w e a b h k =
 stays_free : (s : Start) (cs ds : List Call) (rs ts : List Answer) (y z : Book) → Run s cs rs y → Run s (cs ++ ds) ts z
     → (p q i j month x w : ℕ) (v : Verdict) → Checks y p i month x (Ok Free) → Checks z q j month w (Ok v) → v ≡ Free
 stays_free s cs ds rs ts y z one other p q i j month x w v h k =
-    agrees.stays_free s (is_founded s cs rs y one) cs ds y z (contents_are s cs rs y one) (contents_are s (cs ++ ds) ts z other) p q i j month x w v
+    agrees.stays_free s cs ds y z (contents_are s cs rs y one) (contents_are s (cs ++ ds) ts z other) p q i j month x w v
     (sym h) (sym k)
 
 -- ---- two lists

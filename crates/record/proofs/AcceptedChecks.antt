@@ -1,8 +1,8 @@
 -- An accepted check: the tests that it passed, and its verdict.
 use Prim.Native.Nat.{ℕ}
-use mathlib.Core.Path.{◌≡◌, refl}
+use mathlib.Core.Path.{◌≡◌, sym}
 use mathlib.Core.Bool.{true}
-use Rattle.std.specs.Prelude.{Option, Some, None, is_some}
+use Rattle.std.specs.Prelude.{None, is_some}
 use borrow.Author.Tests.{not-false}
 use Rattle.grain.specs.Products.{is_offered}
 use Rattle.grain.specs.Prices.{is_price}
@@ -10,8 +10,8 @@ use Rattle.grain.specs.declared.check.Verdict.{Verdict}
 use Rattle.record.specs.State.{Record}
 use Rattle.record.specs.Check.{listed, terms_tests, order_tests, judged}
 use Rattle.record.specs.Sound.{is_sound}
-use Rattle.record.specs.Record.{check, question, checked, accepted, terms_in, tests, refusal, answer, answer_by, respond, ask}
-use Rattle.record.proofs.Cleared.{accepted_clear}
+use Rattle.record.specs.Record.{check, question, checked, accepted, terms_in, tests, refusal, answer, respond, ask}
+use Rattle.record.proofs.Cleared.{accepted_clear, accepted_with}
 
 module _ (r : Record) (p size month : ℕ) where
   pub record Passed (price : ℕ) (v : Verdict) : Type 0 where
@@ -25,12 +25,10 @@ module _ (r : Record) (p size month : ℕ) where
   not_refused : (price : ℕ) (v : Verdict) → ask r (check p size month price) ≡ accepted (checked v)
       → (refusal r (question (check p size month price)) ≡ None) × (judged (terms_in r p size) month price ≡ v)
   unfolding respond answer
-  not_refused price v e = go (refusal r (question (check p size month price))) e
-    where
-      go : (o : Option ℕ) → answer_by o (checked (judged (terms_in r p size) month price)) ≡ accepted (checked v)
-          → (o ≡ None) × (judged (terms_in r p size) month price ≡ v)
-      go (Some n) h = (cc, cc)
-      go None h = (refl, cc)
+  not_refused price v e =
+      let a = accepted_with (refusal r (question (check p size month price))) (checked v) _ (sym e) in
+      let same : checked v ≡ checked (judged (terms_in r p size) month price) = a.1 in
+      (a.0, cc)
 
   pub passed : (price : ℕ) (v : Verdict) → ask r (check p size month price) ≡ accepted (checked v) → Passed price v
   unfolding tests terms_tests order_tests

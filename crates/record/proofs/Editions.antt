@@ -15,12 +15,13 @@ use Rattle.record.specs.Edition.{Conditions, conditions_of}
 use Rattle.record.specs.Founding.{Start, founding_refusal, founded}
 use Rattle.record.specs.End.{Lead, Quiet, Triggered, Held, Reverted, leading, led_by, triggering, event_of, group_event, is_raised}
 use Rattle.record.specs.Sound.{is_expanded, is_sound_group, is_sound}
-use Rattle.record.specs.Record.{Change, opening, sheet, end, convert, check, Call, change, question, Accepted, accepted, refusal, answer, next_common, next, next_by, answer_by, respond, state_after, answers}
+use Rattle.record.specs.Record.{Change, end, convert, check, Call, change, question, Accepted, accepted, refusal, answer, next_common, next, answer_by, respond, state_after, answers}
 use Rattle.record.specs.History.{Entry, a_day, a_conversion}
 use Rattle.record.specs.Replay.{common_after, replay}
 use Rattle.record.specs.Theorems.{after, history_of, has_raised, is_conversion}
 use Rattle.record.proofs.Replayed.{replayed}
 use Rattle.record.proofs.SoundCalls.{facts}
+use Rattle.record.proofs.Lasting.{list_keeps}
 use Rattle.record.proofs.StaysSound.{founded_sound, respond_sound}
 
 -- ---- of the edition of its founding, or of 2023 after a conversion
@@ -37,24 +38,12 @@ edition_after_lem s cs = rw (replayed s cs) (edition-by (history_of s cs) (found
 -- ---- a Record of 2014 was so before every call
 next_before : (r : Record) (c : Change) → (next r c).common.edition ≡ 2014 → r.common.edition ≡ 2014
 unfolding next next_common
-next_before r (opening d) e = e
-next_before r (sheet p ms ss) e = e
-next_before r end e = e
 next_before r convert e = let z : ◌≡◌ {A = ℕ} 2023 2014 = e in absurd (omega arith)
-
-respond_before : (r : Record) (c : Call) → (respond r c).state.common.edition ≡ 2014 → r.common.edition ≡ 2014
-unfolding respond
-respond_before r (change c) e = go (refusal r (change c)) e
-  where
-    go : (o : Option ℕ) → (next_by o r c).common.edition ≡ 2014 → r.common.edition ≡ 2014
-    go (Some n) e = e
-    go None e = next_before r c e
-respond_before r (question q) e = e
+next_before r c e = e
 
 list_before : (r : Record) (cs : List Call) → (state_after r cs).common.edition ≡ 2014 → r.common.edition ≡ 2014
-unfolding state_after
-list_before r [] e = e
-list_before r (c ∷ cs) e = respond_before r c (list_before (respond r c).state cs e)
+list_before r cs =
+    list_keeps (λ t. t.common.edition ≡ 2014 → r.common.edition ≡ 2014) (λ t c n before e. before (next_before t c e)) r cs (λ e. e)
 
 -- ---- a group with no mark is not raised
 unmarked_event : (k : Conditions) (l : Level) (mss : List (List Move)) → is_raised (event_of k l false mss) ≡ false
@@ -92,10 +81,8 @@ none_raised c (g ∷ gs) e t = rw (not_raised_lem c g e (and_left _ _ t), none_r
 -- ---- from one call to a list
 own_answer : (r : Record) (c : Call) → is_sound r ≡ true → r.common.edition ≡ 2014 → not (has_raised (accepted (answer r c))) ≡ true
 unfolding answer
-own_answer r (change (opening d)) t e = refl
-own_answer r (change (sheet p ms ss)) t e = refl
 own_answer r (change end) t e = rw (none_raised r.common r.groups e (facts r t).groups)
-own_answer r (change convert) t e = refl
+own_answer r (change c) t e = refl
 own_answer r (question (check p size month price)) t e = refl
 
 answered : (o : Option ℕ) (a : Accepted) → not (has_raised (accepted a)) ≡ true → not (has_raised (answer_by o a)) ≡ true

@@ -4,7 +4,7 @@ pub mod GroupTable
 pub mod CheckTerms
 pub mod Cleared
 pub mod TestNumbers
-pub mod Kept
+pub mod Lasting
 pub mod Replayed
 pub mod Independence
 pub mod AcceptedChecks

@@ -13,7 +13,7 @@ use Rattle.record.specs.Theorems.{after, history_of, check_after, Theorems}
 use Rattle.record.proofs.Replayed.{replayed}
 use Rattle.record.proofs.Independence.{same_day, same_group}
 use Rattle.record.proofs.Resending.{resent}
-use Rattle.record.proofs.StaysSound.{founded_sound, always_sound, never_unsound_lem}
+use Rattle.record.proofs.StaysSound.{founded_sound, always_sound, never_unsound_lem, never_zero_lem}
 use Rattle.record.proofs.StaysFree.{stays_free}
 use Rattle.record.proofs.Editions.{edition_after_lem, never_raised_lem}
 use Rattle.record.proofs.Coupled.{together, coupled}
@@ -40,6 +40,7 @@ theorems =
     record {
       stays_sound = stays_sound_lem;
       never_unsound = λ s f cs. never_unsound_lem (founded s) cs (founded_sound s f);
+      never_zero = never_zero_lem;
       replayed = replayed;
       edition_after = edition_after_lem;
       never_raised = never_raised_lem;

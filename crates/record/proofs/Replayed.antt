@@ -1,6 +1,6 @@
 -- The Record after a list of calls is the replay of its history.
 use Prim.Native.Nat.{ℕ}
-use mathlib.Core.Path.{◌≡◌, refl, ap, ap₂, sym, ◌∙◌}
+use mathlib.Core.Path.{◌≡◌, refl, ap, ap₂, sym}
 use mathlib.Core.Bool.{Bool, true, false, not, cond}
 use mathlib.Core.List.{List, [], ◌∷◌}
 use Rattle.std.specs.Prelude.{Option, Some, None}
@@ -11,13 +11,12 @@ use Rattle.record.specs.Founding.{Start, founded}
 use Rattle.record.specs.Opening.{open_group}
 use Rattle.record.specs.Sheet.{contracts, file_product, file_group}
 use Rattle.record.specs.Conversion.{conversion_tests}
-use Rattle.record.specs.Record.{Change, opening, sheet, end, convert, Call, change, question, tests, refusal, next, next_common, next_group, next_by, respond, state_after}
-use Rattle.record.specs.History.{ProductSheet, Entry, a_day, a_conversion, add, sheet_among}
+use Rattle.record.specs.Record.{Change, opening, sheet, end, convert, Call, change, question, tests, refusal, answer, next, next_common, next_group, next_by, answer_by, respond, state_after, answers}
+use Rattle.record.specs.History.{ProductSheet, Entry, a_day, a_conversion, add, add_by, history_by, kept_from, kept, sheet_among}
 use Rattle.record.specs.Replay.{common_after, over, product_with, group_with, group_after, replay}
 use Rattle.record.specs.Theorems.{after, history_of}
 use Rattle.record.proofs.Maps.{map-map, map_same}
 use Rattle.record.proofs.Cleared.{accepted_clear}
-use Rattle.record.proofs.Kept.{add_unless, judged_history, history_from, history_kept}
 
 -- no sheet: nothing changes
 with_none : (g : Group) → group_with [] g ≡ g
@@ -108,26 +107,27 @@ module _ (r₀ : Record) (f : IsFresh r₀) where
   accept_change convert es e = accept_convert r₀ es (accepted_clear (replay es r₀) (change convert) e).1.0
 
   stepped : (c : Call) (es : List Entry)
-      → (respond (replay es r₀) c).state ≡ replay (judged_history (replay es r₀) c es) r₀
+      → (respond (replay es r₀) c).state ≡ replay (history_by (respond (replay es r₀) c).answer c es) r₀
   unfolding respond
   stepped (change c) es = go (refusal (replay es r₀) (change c)) refl
     where
-      go : (o : Option ℕ) → refusal (replay es r₀) (change c) ≡ o → next_by o (replay es r₀) c ≡ replay (add_unless o c es) r₀
+      go : (o : Option ℕ) → refusal (replay es r₀) (change c) ≡ o
+          → next_by o (replay es r₀) c ≡ replay (add_by (answer_by o (answer (replay es r₀) (change c))) c es) r₀
       go (Some n) e = refl
       go None e = accept_change c es e
   stepped (question q) es = refl
 
   replayed_from : (es : List Entry) (cs : List Call)
-      → state_after (replay es r₀) cs ≡ replay (history_from es (replay es r₀) cs) r₀
-  unfolding state_after history_from
+      → state_after (replay es r₀) cs ≡ replay (kept_from es cs (answers (replay es r₀) cs)) r₀
+  unfolding state_after answers kept_from
   replayed_from es [] = refl
-  replayed_from es (c ∷ cs) = rw (stepped c es) (replayed_from (judged_history (replay es r₀) c es) cs)
+  replayed_from es (c ∷ cs) = rw (stepped c es) (replayed_from (history_by (respond (replay es r₀) c).answer c es) cs)
 
   nothing_yet : replay [] r₀ ≡ r₀
   unfolding replay group_after
   nothing_yet = ap (with_groups r₀.common) (map_same _ (λ g. refl) r₀.groups)
 
-  replayed_fresh : (cs : List Call) → state_after r₀ cs ≡ replay (history_from [] r₀ cs) r₀
+  replayed_fresh : (cs : List Call) → state_after r₀ cs ≡ replay (kept cs (answers r₀ cs)) r₀
   replayed_fresh cs = rw nothing_yet at (replayed_from [] cs)
 
 founded_fresh : (s : Start) → IsFresh (founded s)
@@ -135,5 +135,4 @@ unfolding IsFresh founded
 founded_fresh s = refl
 
 pub replayed : (s : Start) (cs : List Call) → after s cs ≡ replay (history_of s cs) (founded s)
-replayed s cs =
-    replayed_fresh (founded s) (founded_fresh s) cs ∙ ap (λ es. replay es (founded s)) (history_kept [] (founded s) cs)
+replayed s = replayed_fresh (founded s) (founded_fresh s)

@@ -19,7 +19,7 @@ use Rattle.record.specs.Record.{Change, opening, sheet, end, convert, change, is
 use Rattle.record.proofs.Cleared.{Clear}
 use Rattle.record.proofs.Maps.{map_same}
 use Rattle.record.proofs.SoundSheets.{sheet_passed}
-use Rattle.record.proofs.SoundGroups.{open_group_lem, file_group_lem, end_group_lem, convert_group}
+use Rattle.record.proofs.SoundGroups.{open_group_lem, file_group_lem, end_group_lem, sound_under2023}
 
 -- what soundness says of the Record, test by test
 pub record Facts (r : Record) : Type 0 where
@@ -134,7 +134,7 @@ converted_sound r f =
     record {
       edition = refl;
       date = f.date;
-      groups = every_map _ (next_group r.common convert) _ (convert_group r.common.edition) r.groups f.groups;
+      groups = every_map _ (next_group r.common convert) _ (sound_under2023 r.common.edition) r.groups f.groups;
       resting = rw left f.resting;
       lasts = rw left f.lasts;
     }

@@ -66,7 +66,7 @@ may_mark true true false t = cc
 may_mark true false h t = t
 may_mark false x h t = refl
 
-pub convert_group : (e : ℕ) (g : Group) → is_sound_group e g ≡ true → is_sound_group 2023 g ≡ true
+pub sound_under2023 : (e : ℕ) (g : Group) → is_sound_group e g ≡ true → is_sound_group 2023 g ≡ true
 unfolding is_sound_group conditions_of
-convert_group e g t =
+sound_under2023 e g t =
     both _ _ (may_mark g.mark (is_expanded g.level) (conditions_of e).has_marks (and_left _ _ t)) (and_right _ _ t)

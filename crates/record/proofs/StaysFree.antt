@@ -12,17 +12,17 @@ use Rattle.grain.specs.declared.check.Verdict.TheVariants.{Free}
 use Rattle.grain.proofs.Judged.{is_free, free_only}
 use Rattle.grain.proofs.Spots.{still_spot}
 use Rattle.record.specs.State.{Day, Record, no_day, day_of, month_of, trade_date, is_spot_on}
-use Rattle.record.specs.Founding.{Start, founding_refusal, founded}
+use Rattle.record.specs.Founding.{Start, founded}
 use Rattle.record.specs.Opening.{is_true_day, date_number, is_not_later, is_same_month, is_left_not_smaller, opening_tests}
 use Rattle.record.specs.Check.{judged}
-use Rattle.record.specs.Sound.{is_sound_date, is_sound}
-use Rattle.record.specs.Record.{Change, opening, sheet, end, convert, check, Call, change, question, checked, accepted, tests, refusal, next_common, next, next_by, respond, ask, state_after}
+use Rattle.record.specs.Sound.{is_sound_date}
+use Rattle.record.specs.Record.{Change, opening, check, Call, change, checked, accepted, tests, refusal, next_common, next, respond, ask, state_after}
 use Rattle.record.specs.Theorems.{after, check_after}
 use Rattle.record.proofs.TrueDays.{valid, day_small}
-use Rattle.record.proofs.Cleared.{Clear, accepted_clear}
+use Rattle.record.proofs.Cleared.{accepted_clear}
 use Rattle.record.proofs.AcceptedChecks.{passed}
 use Rattle.record.proofs.SoundCalls.{facts, open_opened}
-use Rattle.record.proofs.StaysSound.{founded_sound, respond_sound, always_sound}
+use Rattle.record.proofs.Lasting.{list_keeps}
 
 -- ---- from one day to a later one
 module _ (before d : Day) (s : is_true_day before ≡ true) (t : is_true_day d ≡ true) where
@@ -61,30 +61,16 @@ module _ (month : ℕ) where
   opened_spot None b d s t later smaller e = let z : ◌≡◌ {A = Bool} false true = e in cc
   opened_spot (Some before) b d s t later smaller e = stays_spot before d s t later smaller month e
 
-  accepted_spot : (r : Record) (c : Change) → is_sound r ≡ true → Clear (tests r (change c)) → spot_since r.common.opened month ≡ true
+  change_spot : (r : Record) (c : Change) → refusal r (change c) ≡ None → spot_since r.common.opened month ≡ true
       → spot_since (next r c).common.opened month ≡ true
   unfolding next next_common tests opening_tests
-  accepted_spot r (opening d) s k e =
-      opened_spot r.common.opened r.common.is_open d (facts r s).date (not-false _ k.1.0) k.1.1.0 k.1.1.1.0 e
-  accepted_spot r (sheet p ms ss) s k e = e
-  accepted_spot r end s k e = e
-  accepted_spot r convert s k e = e
+  change_spot r (opening d) e h =
+      let k = accepted_clear r (change (opening d)) e in
+      opened_spot r.common.opened r.common.is_open d (facts r k.0).date (not-false _ k.1.1.0) k.1.1.1.0 k.1.1.1.1.0 h
+  change_spot r c e h = h
 
-  respond_spot : (r : Record) (c : Call) → is_sound r ≡ true → spot_since r.common.opened month ≡ true
-      → spot_since (respond r c).state.common.opened month ≡ true
-  unfolding respond
-  respond_spot r (change c) s e = go (refusal r (change c)) refl
-    where
-      go : (o : Option ℕ) → refusal r (change c) ≡ o → spot_since (next_by o r c).common.opened month ≡ true
-      go (Some n) h = e
-      go None h = accepted_spot r c s (accepted_clear r (change c) h).1 e
-  respond_spot r (question q) s e = e
-
-  list_spot : (r : Record) (cs : List Call) → is_sound r ≡ true → spot_since r.common.opened month ≡ true
-      → spot_since (state_after r cs).common.opened month ≡ true
-  unfolding state_after
-  list_spot r [] s e = e
-  list_spot r (c ∷ cs) s e = list_spot (respond r c).state cs (respond_sound r c s) (respond_spot r c s e)
+  list_spot : (r : Record) (cs : List Call) → spot_since r.common.opened month ≡ true → spot_since (state_after r cs).common.opened month ≡ true
+  list_spot = list_keeps (λ r. spot_since r.common.opened month ≡ true) change_spot
 
 after_both : (r : Record) (cs ds : List Call) → state_after r (cs ++ ds) ≡ state_after (state_after r cs) ds
 unfolding state_after
@@ -113,9 +99,8 @@ module _ (r : Record) (p size month price : ℕ) (v : Verdict) (e : ask r (check
       let spot : is_spot_on (day_of r.common) month ≡ true = sym since ∙ h in
       sym (passed r p size month price v e).is ∙ rw spot (is_free _ _ _ price)
 
-pub stays_free : (s : Start) → founding_refusal s ≡ None → (cs ds : List Call) (p q i j month x y : ℕ) (v : Verdict)
+pub stays_free : (s : Start) (cs ds : List Call) (p q i j month x y : ℕ) (v : Verdict)
     → check_after s cs p i month x ≡ accepted (checked Free) → check_after s (cs ++ ds) q j month y ≡ accepted (checked v) → v ≡ Free
-stays_free s f cs ds p q i j month x y v e h =
-    let sound = always_sound (founded s) cs (founded_sound s f) in
-    let spot = list_spot month (after s cs) ds sound (found_free (after s cs) p i month x Free e refl) in
+stays_free s cs ds p q i j month x y v e h =
+    let spot = list_spot month (after s cs) ds (found_free (after s cs) p i month x Free e refl) in
     still_free (after s (cs ++ ds)) q j month y v h (rw (after_both (founded s) cs ds) spot)

@@ -1,9 +1,8 @@
--- A founded Record is sound and stays so, whatever is called: no call of a list answers 1.
-use Prim.Native.Nat.{ℕ}
+-- A founded Record is sound and stays so, whatever is called: no call of a list answers 1. And no call of any Record answers 0.
 use mathlib.Core.Path.{◌≡◌, refl}
 use mathlib.Core.Bool.{true, not}
 use mathlib.Core.List.{List, [], ◌∷◌}
-use Rattle.std.specs.Prelude.{Option, Some, None}
+use Rattle.std.specs.Prelude.{None}
 use borrow.Author.Tests.{not-false}
 use lib.Dec.{eqb}
 use lib.ListN.{length}
@@ -16,10 +15,11 @@ use Rattle.record.specs.Edition.{is_edition}
 use Rattle.record.specs.State.{Record, group_table}
 use Rattle.record.specs.Founding.{Start, are_fit, founding_refusal, found_product, found_group, founded}
 use Rattle.record.specs.Sound.{is_sound_group, is_sound_date, is_sound}
-use Rattle.record.specs.Record.{Call, change, question, tests, refusal, answer, next_by, respond, state_after, answers}
+use Rattle.record.specs.Record.{Change, Call, change, tests, refusal, answer, next, respond, state_after, answers}
 use Rattle.record.specs.Theorems.{is_refusal}
 use Rattle.record.proofs.Cleared.{cleared, accepted_clear, not_returned}
 use Rattle.record.proofs.TestNumbers.{other_tests}
+use Rattle.record.proofs.Lasting.{call_keeps, list_keeps}
 use Rattle.record.proofs.SoundGroups.{found_group_lem}
 use Rattle.record.proofs.SoundCalls.{facts_sound, accepted_sound}
 
@@ -36,19 +36,14 @@ founded_sound s t =
       lasts = refl;
     }
 
+change_sound : (r : Record) (c : Change) → refusal r (change c) ≡ None → is_sound r ≡ true → is_sound (next r c) ≡ true
+change_sound r c e t = accepted_sound r c (accepted_clear r (change c) e).1 t
+
 pub respond_sound : (r : Record) (c : Call) → is_sound r ≡ true → is_sound (respond r c).state ≡ true
-unfolding respond
-respond_sound r (change c) t = go (refusal r (change c)) refl
-  where
-    go : (o : Option ℕ) → refusal r (change c) ≡ o → is_sound (next_by o r c) ≡ true
-    go (Some n) e = t
-    go None e = accepted_sound r c (accepted_clear r (change c) e).1 t
-respond_sound r (question q) t = t
+respond_sound = call_keeps (λ r. is_sound r ≡ true) change_sound
 
 pub always_sound : (r : Record) (cs : List Call) → is_sound r ≡ true → is_sound (state_after r cs) ≡ true
-unfolding state_after
-always_sound r [] t = t
-always_sound r (c ∷ cs) t = always_sound (respond r c).state cs (respond_sound r c t)
+always_sound = list_keeps (λ r. is_sound r ≡ true) change_sound
 
 respond-not-unsound : (r : Record) (c : Call) → is_sound r ≡ true → not (is_refusal unsound (respond r c).answer) ≡ true
 unfolding respond refusal
@@ -59,3 +54,8 @@ pub never_unsound_lem : (r : Record) (cs : List Call) → is_sound r ≡ true
 unfolding every answers
 never_unsound_lem r [] t = refl
 never_unsound_lem r (c ∷ cs) t = both _ _ (respond-not-unsound r c t) (never_unsound_lem (respond r c).state cs (respond_sound r c t))
+
+-- whatever the Record
+pub never_zero_lem : (r : Record) (c : Call) → not (is_refusal 0 (respond r c).answer) ≡ true
+unfolding ◌and◌ every respond refusal
+never_zero_lem r c = not_returned 0 (answer r c) (when (not (is_sound r)) unsound ∷ tests r c) (other_tests 0 refl r c)

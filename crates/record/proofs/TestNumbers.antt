@@ -1,4 +1,4 @@
--- The numbers of a call's tests after 1. A number that is none of them is returned by no test.
+-- The numbers of a call's tests after 1: no such test has a number that is none of them.
 use Prim.Native.Nat.{ℕ}
 use mathlib.Core.Path.{◌≡◌, refl, sym, ◌∙◌}
 use mathlib.Core.Bool.{Bool, true, false, not}

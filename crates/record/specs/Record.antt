@@ -105,7 +105,7 @@ abbrev pub next_by : Option ℕ → Record → Change → Record
 next_by (Some n) r c = r
 next_by None r c = next r c
 
--- a question changes nothing
+-- what a call leaves; a question changes nothing
 abbrev pub state_by : Record → Call → Record
 state_by r (change c) = next_by (refusal r (change c)) r c
 state_by r (question q) = r

@@ -12,7 +12,7 @@ use Rattle.record.specs.Founding.{Start, founding_refusal, founded}
 use Rattle.record.specs.End.{is_raised}
 use Rattle.record.specs.Check.{listed}
 use Rattle.record.specs.Sound.{is_sound}
-use Rattle.record.specs.Record.{check, Call, ended, checked, Answer, refused, accepted, ask, state_after, answers}
+use Rattle.record.specs.Record.{check, Call, ended, checked, Answer, refused, accepted, respond, ask, state_after, answers}
 use Rattle.record.specs.History.{Entry, a_day, a_conversion, kept, products_of, SameFor}
 use Rattle.record.specs.Replay.{replay}
 
@@ -90,6 +90,8 @@ pub record Theorems : Type 0 where
   pub never_unsound :
       (s : Start) → founding_refusal s ≡ None → (cs : List Call)
       → every (λ a. not (is_refusal unsound a)) (answers (founded s) cs) ≡ true
+  -- 0 is no refusal's number, whatever the Record: C returns it for an accepted call
+  pub never_zero : (r : Record) (c : Call) → not (is_refusal 0 (respond r c).answer) ≡ true
   -- the state after a list is the replay of its history
   pub replayed : (s : Start) (cs : List Call) → after s cs ≡ replay (history_of s cs) (founded s)
   -- a book is of the edition that it was founded under until a conversion is accepted, and then of 2023
@@ -113,7 +115,7 @@ pub record Theorems : Type 0 where
   -- a contract month that a check found free is free in every later check that is answered, of any product and price: the left falls
   -- within a month, so that a month once spot stays so
   pub stays_free :
-      (s : Start) → founding_refusal s ≡ None → (cs ds : List Call) (p q i j month x y : ℕ) (v : Verdict)
+      (s : Start) (cs ds : List Call) (p q i j month x y : ℕ) (v : Verdict)
       → check_after s cs p i month x ≡ accepted (checked Free) → check_after s (cs ++ ds) q j month y ≡ accepted (checked v) → v ≡ Free
   -- two lists with the same openings, ends and conversions accepted and the same sheets of one group on each day: the same day is open after
   -- both, or none, and the edition is the same
