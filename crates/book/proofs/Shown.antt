@@ -36,7 +36,7 @@ flat b f =
 abbrev is_mark_shown_sound : Bool → Group → Bool
 is_mark_shown_sound marks g = not g.mark || (is_expanded g.level && marks)
 
-is_expanded_lem : (e : Bool) → is_expanded (level_of e) ≡ e
+pub is_expanded_lem : (e : Bool) → is_expanded (level_of e) ≡ e
 is_expanded_lem true = refl
 is_expanded_lem false = refl
 

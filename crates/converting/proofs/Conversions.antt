@@ -1,8 +1,7 @@
 -- What refuses a conversion of a book, and the book that an accepted one leaves.
-use Rattle.std.proofs.Common.{ℕ, ◌≡◌, refl, sym, ◌∙◌, ap, Bool, true, false, cond, eqb, length, List, [], ◌∷◌}
-use Rattle.std.specs.Prelude.{◌&&◌, Option, Some, None, Result}
+use Rattle.std.proofs.Common.{ℕ, ◌≡◌, refl, sym, ◌∙◌, ap, false, cond, eqb, length, List, [], ◌∷◌}
+use Rattle.std.specs.Prelude.{◌&&◌, Some, None}
 use Rattle.std.specs.List.{list_any}
-use Rattle.grain.specs.declared.refusals.Refusal.{Refusal}
 use Rattle.grain.proofs.Every.{any_mapped}
 use Rattle.record.specs.Refusals.{Test, when, group_expanded}
 use Rattle.record.specs.State.{Group, group_count}
@@ -10,22 +9,19 @@ use Rattle.record.specs.Sound.{is_expanded}
 use Rattle.record.specs.Conversion.{has_expanded, conversion_tests}
 use Rattle.record.specs.Record.{convert, change, tests, refusal, next, next_common, next_group}
 use Rattle.book.specs.declared.Book.{Book}
-use Rattle.book.specs.Book.{no_standing, level_of, standing_in, view_group, view_common, view}
+use Rattle.book.specs.Book.{no_standing, standing_in, view_group, view_common, view}
 use Rattle.book.specs.Numbers.{all_groups}
 use Rattle.book.specs.declared.Standing.{Standing}
 use Rattle.book.specs.Phase.{phase_refusal}
 use Rattle.book.proofs.Numbers.{values_are}
 use Rattle.book.proofs.Phases.{refused_early, decided_late}
+use Rattle.book.proofs.Shown.{is_expanded_lem}
 use Rattle.book.proofs.Views.{shown_group, groups_are, next-view}
-use Rattle.converting.specs.Converts.{with_2023, Converts}
-
-level_is : (e : Bool) → is_expanded (level_of e) ≡ e
-level_is true = refl
-level_is false = refl
+use Rattle.converting.specs.Converts.{with_2023}
 
 expanded_shown : (b : Book) (g : ℕ) → is_expanded (shown_group b g).level ≡ (standing_in b g).expanded
 unfolding view_group
-expanded_shown b g = level_is (standing_in b g).expanded
+expanded_shown b g = is_expanded_lem (standing_in b g).expanded
 
 -- a group of the view is expanded where a standing is
 expanded_is : (b : Book) → length b.standings ≡ group_count → has_expanded (view b).groups ≡ list_any (λ (s : Standing). s.expanded) b.standings
@@ -62,11 +58,3 @@ converted_view b = next-view b (with_2023 b) convert refl (λ g l. refl)
 
 pub stays : (b : Book) → b.edition ≡ 2023 → with_2023 b ≡ b
 stays b e = rw (← e)
-
--- refused or accepted, a book under 2023 is left as it is
-pub same_book : (b after : Book) (r : Result (Unit {0}) Refusal) → Converts b r after → b.edition ≡ 2023 → after ≡ b
-same_book b after r c e = go (refusal (view b) (change convert)) refl
-  where
-    go : (o : Option ℕ) → refusal (view b) (change convert) ≡ o → after ≡ b
-    go (Some n) h = c.responds.unchanged n h
-    go None h = c.carried h ∙ stays b e

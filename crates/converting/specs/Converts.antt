@@ -15,5 +15,5 @@ with_2023 b = record b { edition = 2023 }
 
 pub record Converts (b : Book) (r : Result (Unit {0}) Refusal) (after : Book) : Type 0 where
   pub responds : Responds b convert (converted_as r) after
-  -- unused places too
-  pub carried : refusal (view b) (change convert) ≡ None → after ≡ with_2023 b
+  -- nothing else changes, not even an unused place
+  pub book : refusal (view b) (change convert) ≡ None → after ≡ with_2023 b

@@ -44,10 +44,10 @@ pub record RespondsImage (ws : List ℕ) (c : Change) (n : ℕ) (now : List ℕ)
   pub events : events_in now ≡ events_after (answer_to ws (change c)) (events_in ws)
   pub unchanged : (m : ℕ) → refusal (view (book_in ws)) (change c) ≡ Some m → now ≡ ws
 
--- A conversion that is accepted changes nothing of the book but its edition, unused places too, and leaves the very words of one under 2023.
+-- An accepted conversion changes the edition of the book and nothing else, so that unused places stay; the words of one under 2023 stay too.
 pub record ConvertsImage (ws : List ℕ) (n : ℕ) (now : List ℕ) : Type 0 where
   pub responds : RespondsImage ws convert n now
-  pub carried : refusal (view (book_in ws)) (change convert) ≡ None → book_in now ≡ with_2023 (book_in ws)
+  pub book : refusal (view (book_in ws)) (change convert) ≡ None → book_in now ≡ with_2023 (book_in ws)
   pub same : (book_in ws).edition ≡ 2023 → now ≡ ws
 
 -- what the Record of the book in the words answers to a check

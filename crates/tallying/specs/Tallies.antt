@@ -8,10 +8,12 @@ use Rattle.tally.specs.declared.kinds.Kind.{Kind}
 use Rattle.tally.specs.declared.kinds.Kind.TheVariants.{Refused}
 use Rattle.tally.specs.Tally.{tally_refusal, takes, kind_of_verdict, counted}
 
--- what an answer is counted as: a check is answered by a verdict or a refusal
+-- what an answer is counted as
 abbrev pub kind_of : Answer → Kind
 kind_of (accepted (checked v)) = kind_of_verdict v
-kind_of a = Refused
+kind_of (refused n) = Refused
+-- no check is answered so
+kind_of (accepted a) = Refused
 
 -- 15 and a tally's 1 are the tally's own; every other answer is the book's, and is counted, the book's own 1 too.
 -- The book is lent to read only, and stays as it is.

@@ -11,7 +11,7 @@ returns-in_err-refusal_of c =
     let by = c.in_err-refusal_of.ensures in
     record {
       responds = refused_call (λ _. converted) b convert c.from_residual.result c.in_err-refusal_of.field-0.0 (search rules) by;
-      carried = λ e. cc (e, by);
+      book = λ e. cc (e, by);
     }
 
 pub returns : goal.returns
@@ -20,5 +20,5 @@ returns c =
     let b = c.args.b.now in
     record {
       responds = accepted_responds b convert converted (with_2023 b) (sym c.in_ok-refusal_of.ensures) refl (converted_view b);
-      carried = λ e. refl;
+      book = λ e. refl;
     }
