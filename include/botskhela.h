@@ -47,7 +47,7 @@
 
 /* Refusals. Where several apply, each call says which comes first. */
 #define BOTSKHELA_UNSOUND           1u  /* the book, or the tally, is none or damaged               */
-#define BOTSKHELA_WRONG_PHASE       2u  /* a day is open; for a sheet, an end or a check none is    */
+#define BOTSKHELA_WRONG_PHASE       2u  /* open, convert: a day is open; sheet, end, check: none is */
 #define BOTSKHELA_NO_SUCH_DATE      3u  /* no date from 2000 to 2098, or left beyond its month      */
 #define BOTSKHELA_NOT_LATER         4u  /* the date is not later than the last opened one           */
 #define BOTSKHELA_NO_SUCH_PRODUCT   5u  /* no such product, or no such size of it                   */
