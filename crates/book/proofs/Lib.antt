@@ -7,7 +7,7 @@ pub mod SoundFacts
 pub mod SheetsIn
 pub mod TradeDates
 pub mod Founded
-pub mod Unfounded
+pub mod NoBook
 pub mod Views
 pub mod TodaysLimit
 pub mod SoundnessFirst

@@ -8,7 +8,7 @@ use lib.ListN.{length, get_or, drop}
 use lib.Seq.{ext_get_or}
 use Rattle.std.specs.List.{list_any, range_with_len}
 use Rattle.std.proofs.lemmas.List.FromFn.{length-range_with_len, get_or-range_with_len, length-map-range_with_len, get_or-map-range_with_len}
-use Rattle.grain.specs.Lists.{◌and◌, every}
+use Rattle.grain.specs.Lists.{every}
 use Rattle.grain.proofs.Tests.{and_left, and_right}
 use Rattle.grain.proofs.Scans.{every_fails, every_goes_on, every_end}
 
@@ -59,11 +59,6 @@ module _ {A B : Type 0} (t : A → Bool) (f h : A → B) (same : (x : A) → t x
   map_same (x ∷ l) e = ap₂ ◌∷◌ (same x (and_left _ _ e)) (map_same l (and_right _ _ e))
 
 module _ {A : Type 0} (t f h : A → Bool) (same : (x : A) → t x ≡ true → f x ≡ h x) where
-  pub every_same : (l : List A) → every t l ≡ true → every f l ≡ every h l
-  unfolding every
-  every_same [] e = refl
-  every_same (x ∷ l) e = ap₂ ◌and◌ (same x (and_left _ _ e)) (every_same l (and_right _ _ e))
-
   pub any_same : (l : List A) → every t l ≡ true → list_any f l ≡ list_any h l
   unfolding every
   any_same [] e = refl

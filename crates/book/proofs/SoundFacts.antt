@@ -19,7 +19,7 @@ use Rattle.sheets.specs.declared.sheet.Sheet.{Sheet}
 use Rattle.sheets.specs.Sheets.{contracts_of, sheet_in, months_of}
 use Rattle.windows.specs.declared.Window.{Window}
 use Rattle.windows.specs.Windows.{shown}
-use Rattle.book.specs.Book.{size_of, window_of}
+use Rattle.book.specs.Book.{window_of}
 use Rattle.windows.proofs.Shown.{too_long}
 use Rattle.book.specs.declared.Book.{Book}
 use Rattle.book.specs.Book.{window_in, today_in, last_in, view_product, view_common, view, view_held}
@@ -91,7 +91,7 @@ module _ (b : Book) (sound : is_sound (view b) ≡ true) where
     pub last_fits : (last_in b p).len ≤ 16
     last_fits = sheet_fits p (last_in b p) (facts b p product_sound).last
 
-    pub size_fits : size_of b p ≤ 45
+    pub size_fits : (window_in b p).size ≤ 45
     size_fits = window_fits (window_in b p) (facts b p product_sound).short
 
     pub window_settlements : every (is_settlement p) (window_of b p) ≡ true

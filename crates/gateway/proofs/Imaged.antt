@@ -21,7 +21,7 @@ use Rattle.record.specs.Theorems.{after, history_of, is_refusal}
 use Rattle.record.proofs.Proved.{theorems}
 use Rattle.book.specs.Book.{view}
 use Rattle.book.proofs.SoundnessFirst.{unsound-refusal}
-use Rattle.book.proofs.Unfounded.{no_book-unsound, no_book_refuses}
+use Rattle.book.proofs.NoBook.{no_book-unsound, no_book_refuses}
 use Rattle.history.specs.Trace.{Trace, done, more}
 use Rattle.history.proofs.Shows.{list_shows}
 use Rattle.history.proofs.Agrees as agrees
@@ -29,7 +29,7 @@ use Rattle.image.specs.Image.{is_image, book_in}
 use Rattle.image.specs.Answers.{renewed_in, events_in}
 use Rattle.gateway.specs.Calls.{answer_number, renewed_after, events_after, answer_to, image_answer, RespondsImage, answer_span, with_span, image_check, no_renewed, no_events}
 use Rattle.gateway.specs.declared.spans.Spanned.{Spanned}
-use Rattle.gateway.specs.Images.{Seen, sees, seen_of, ImageStep, changes, converts, checks, spans, ImageRun, ResentImage, WholeImages, NoImage}
+use Rattle.gateway.specs.Images.{Seen, sees, seen_of, ImageStep, opens, files, ends, converts, checks, spans, ImageRun, ResentImage, WholeImages, NoImage}
 use Rattle.gateway.proofs.Numbers.{number_of, accepted_by}
 
 -- ---- one call
@@ -60,7 +60,9 @@ asked ws p size month price n e =
     record { seen = ap (λ n. sees n ws) e; state = refl; renewed = keeps_renewed _ (renewed_in ws) r; events = keeps_events _ (events_in ws) r }
 
 stepped : {ws now : List ℕ} {c : Call} {v : Seen} → ImageStep ws c v now → Stepped ws c v now
-stepped (changes n r) = changed _ _ _ n r
+stepped (opens n r) = changed _ _ _ n r
+stepped (files n r) = changed _ _ _ n r
+stepped (ends n r) = changed _ _ _ n r
 stepped (converts n r) = changed _ _ _ n r.responds
 stepped (checks n e) = asked _ _ _ _ _ n e
 stepped (spans r e) = asked _ _ _ _ _ r.answer (ap (λ (r : Spanned). r.answer) e)

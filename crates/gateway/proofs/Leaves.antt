@@ -11,7 +11,8 @@ use Rattle.record.specs.State.{Record}
 use Rattle.record.specs.Founding.{Start}
 use Rattle.record.specs.Sound.{is_sound}
 use Rattle.record.specs.Record.{Change, change, Accepted, refused, accepted, refusal, answer, respond}
-use Rattle.record.proofs.Cleared.{accepted_clear, refused_with, accepted_with}
+use Rattle.record.proofs.Cleared.{accepted_clear}
+use Rattle.record.proofs.AnswerBy.{refused_with, accepted_with}
 use Rattle.record.proofs.StaysSound.{founded_sound, respond_sound}
 use Rattle.book.specs.declared.Book.{Book}
 use Rattle.book.specs.Book.{view}

@@ -1,6 +1,7 @@
 pub mod Leaves
 pub mod Numbers
 pub mod Imaged
+pub mod Zeros
 pub mod TallyWords
 pub mod NotFull
 pub mod Proved

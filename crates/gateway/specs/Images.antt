@@ -1,15 +1,16 @@
 -- Whole lists of calls on one image, from an accepted founding: what a C program sees of them, and the book in the image that they leave,
 -- are the Record's. proofs/Imaged.antt has the proofs, and proofs/Ties.antt that the functions' contracts are what a list is made of.
-use Rattle.std.specs.Prelude.{ℕ, ◌<◌, ◌≡◌, true, false, not, List, [], ◌∷◌, ◌++◌, eqb}
+use Rattle.std.specs.Prelude.{ℕ, ◌<◌, ◌≡◌, true, false, not, List, [], ◌∷◌, ◌++◌, eqb, is_some}
 use Rattle.grain.specs.Lists.{every}
 use Rattle.grain.specs.Check.{is_within}
 use Rattle.grain.specs.Check.{within}
 use Rattle.grain.specs.declared.check.Verdict.{Verdict}
 use Rattle.grain.specs.declared.check.Verdict.TheVariants.{Free}
 use Rattle.record.specs.Refusals.{unsound}
+use Rattle.record.specs.declared.Day.{Day}
 use Rattle.record.specs.State.{group_of, group_at}
-use Rattle.record.specs.Founding.{Start, founded}
-use Rattle.record.specs.Record.{Change, convert, check, Call, change, question, checked, Answer, accepted, answers}
+use Rattle.record.specs.Founding.{Start, founding_refusal, founded}
+use Rattle.record.specs.Record.{Change, opening, sheet, end, convert, check, Call, change, question, checked, Answer, accepted, refusal, answers}
 use Rattle.record.specs.History.{SameFor}
 use Rattle.record.specs.Theorems.{after, history_of, check_after, Together, BetweenLimits}
 use Rattle.book.specs.Book.{view}
@@ -38,8 +39,10 @@ seen_of rs es (a ∷ l) =
 
 -- One call on an image, by its contract.
 pub data ImageStep : List ℕ → Call → Seen → List ℕ → Type 0 where
-  -- an opening, a sheet or an end
-  changes : {ws now : List ℕ} {c : Change} (n : ℕ) → RespondsImage ws c n now → ImageStep ws (change c) (sees n now) now
+  opens : {ws now : List ℕ} {d : Day} (n : ℕ) → RespondsImage ws (opening d) n now → ImageStep ws (change (opening d)) (sees n now) now
+  files : {ws now : List ℕ} {p : ℕ} {ms ss : List ℕ} (n : ℕ)
+      → RespondsImage ws (sheet p ms ss) n now → ImageStep ws (change (sheet p ms ss)) (sees n now) now
+  ends : {ws now : List ℕ} (n : ℕ) → RespondsImage ws end n now → ImageStep ws (change end) (sees n now) now
   converts : {ws now : List ℕ} (n : ℕ) → ConvertsImage ws n now → ImageStep ws (change convert) (sees n now) now
   checks : {ws : List ℕ} {p size month price : ℕ} (n : ℕ)
       → n ≡ image_check ws p size month price → ImageStep ws (question (check p size month price)) (sees n ws) ws
@@ -105,6 +108,13 @@ pub record WholeImages : Type 0 where
       (s : Start) (g : ℕ) (cs ds : List Call) (us vs : List Seen) (y z : List ℕ) → ImageRun s cs us y → ImageRun s ds vs z
       → SameFor g (history_of s cs) (history_of s ds) → (p size month price : ℕ) → group_of p ≡ g
       → image_check y p size month price ≡ image_check z p size month price
+
+-- Whatever words are lent: 0 is returned where the call is accepted, and nowhere else.
+pub record ZeroAccepts : Type 0 where
+  pub changes :
+      (ws now : List ℕ) (c : Change) (n : ℕ) → RespondsImage ws c n now
+      → eqb n 0 ≡ not (is_some (refusal (view (book_in ws)) (change c)))
+  pub foundings : (ws now : List ℕ) (s : Start) (n : ℕ) → FoundsImage ws s n now → eqb n 0 ≡ not (is_some (founding_refusal s))
 
 -- Words that hold no book: every call but a founding returns 1 and leaves them as they are.
 pub record NoImage : Type 0 where

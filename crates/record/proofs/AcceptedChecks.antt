@@ -11,7 +11,8 @@ use Rattle.record.specs.State.{Record}
 use Rattle.record.specs.Check.{listed, terms_tests, order_tests, judged}
 use Rattle.record.specs.Sound.{is_sound}
 use Rattle.record.specs.Record.{check, question, checked, accepted, terms_in, tests, refusal, answer, respond, ask}
-use Rattle.record.proofs.Cleared.{accepted_clear, accepted_with}
+use Rattle.record.proofs.Cleared.{accepted_clear}
+use Rattle.record.proofs.AnswerBy.{accepted_with}
 
 module _ (r : Record) (p size month : ℕ) where
   pub record Passed (price : ℕ) (v : Verdict) : Type 0 where

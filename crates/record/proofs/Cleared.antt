@@ -1,4 +1,4 @@
--- A call that no test refuses, what an answer says of the refusal, and a number that no test returns.
+-- A call that no test refuses, and a number that no test returns.
 use Prim.Native.Nat.{ℕ}
 use mathlib.Core.Path.{◌≡◌, refl}
 use mathlib.Core.Bool.{Bool, true, false, not, cond}
@@ -11,7 +11,7 @@ use Rattle.grain.proofs.Tests.{and_left, and_right}
 use Rattle.record.specs.Refusals.{Test, when, first, unsound}
 use Rattle.record.specs.State.{Record}
 use Rattle.record.specs.Sound.{is_sound}
-use Rattle.record.specs.Record.{Call, Accepted, refused, accepted, tests, refusal, answer_by}
+use Rattle.record.specs.Record.{Call, Accepted, tests, refusal, answer_by}
 use Rattle.record.specs.Theorems.{is_refusal}
 
 -- none of the tests applies
@@ -31,15 +31,6 @@ cleared (t ∷ l) e = let h = passed t.applies t.number (first l) e in (h.0, cle
 pub accepted_clear : (r : Record) (c : Call) → refusal r c ≡ None → (is_sound r ≡ true) × Clear (tests r c)
 unfolding refusal
 accepted_clear r c e = let k = cleared (when (not (is_sound r)) unsound ∷ tests r c) e in (not-false _ k.0, k.1)
-
--- what an answer says of the refusal
-pub refused_with : (n : ℕ) (o : Option ℕ) (a : Accepted) → refused n ≡ answer_by o a → o ≡ Some n
-refused_with n (Some m) a e = cc
-refused_with n None a e = cc
-
-pub accepted_with : (o : Option ℕ) (a b : Accepted) → accepted a ≡ answer_by o b → (o ≡ None) × (a ≡ b)
-accepted_with (Some m) a b e = (cc, cc)
-accepted_with None a b e = (refl, cc)
 
 module _ (n : ℕ) (a : Accepted) where
   pub not_returned : (l : List Test) → every (λ t. not (eqb t.number n)) l ≡ true

@@ -24,7 +24,7 @@ use Rattle.record.specs.End.{Event, Quiet, Lead, event_of, group_event, end_prod
 use Rattle.record.specs.Check.{terms_tests, order_tests, judged}
 use Rattle.record.specs.Sound.{is_sound_sheet, is_sound_window, is_sound_product, is_sound_group, is_sound_date, is_sound}
 use Rattle.record.specs.Conversion.{conversion_tests}
-use Rattle.record.specs.Record.{opening, sheet, end, convert, check, Call, change, question, opened, ended, Answer, accepted, is_outstanding, tests, refusal, answer, next_common, next_group, next, Result, respond, state_after, answers}
+use Rattle.record.specs.Record.{opening, sheet, end, convert, check, Call, change, question, opened, ended, Answer, accepted, is_outstanding, tests, refusal, answer, next_common, next_group, next, Response, respond, state_after, answers}
 use Rattle.record.specs.History.{kept_from}
 
 -- ---- products, groups, contract months and days by name
@@ -296,10 +296,10 @@ record Run : Type 0 where
   answers : List Answer
   state : Record
 
-abbrev after_one : Result → Run → Run
+abbrev after_one : Response → Run → Run
 after_one t u = record { answers = t.answer ∷ u.answers; state = u.state }
 
-abbrev run_from : Result → (Record → Run) → Run
+abbrev run_from : Response → (Record → Run) → Run
 run_from t rest = after_one t (rest t.state)
 
 abbrev run_of : List Call → Record → Run
@@ -330,7 +330,7 @@ products_of r = concat_map (λ g. g.products) r.groups
 abbrev pub windows_of : Record → List (List ℕ)
 windows_of r = map (λ (q : Product). q.window) (products_of r)
 
-abbrev renewal_by : Result → Renewal
+abbrev renewal_by : Response → Renewal
 renewal_by t =
     record {
       answer = t.answer;

@@ -3,6 +3,7 @@ pub mod TrueDays
 pub mod GroupTable
 pub mod CheckTerms
 pub mod Cleared
+pub mod AnswerBy
 pub mod TestNumbers
 pub mod Lasting
 pub mod Replayed

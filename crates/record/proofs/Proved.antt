@@ -13,7 +13,8 @@ use Rattle.record.specs.Theorems.{after, history_of, check_after, Theorems}
 use Rattle.record.proofs.Replayed.{replayed}
 use Rattle.record.proofs.Independence.{same_day, same_group}
 use Rattle.record.proofs.Resending.{resent}
-use Rattle.record.proofs.StaysSound.{founded_sound, always_sound, never_unsound_lem, never_zero_lem}
+use Rattle.record.proofs.TestNumbers.{never_zero_lem}
+use Rattle.record.proofs.StaysSound.{founded_sound, always_sound, never_unsound_lem}
 use Rattle.record.proofs.StaysFree.{stays_free}
 use Rattle.record.proofs.Editions.{edition_after_lem, never_raised_lem}
 use Rattle.record.proofs.Coupled.{together, coupled}

@@ -1,4 +1,4 @@
--- A founded Record is sound and stays so, whatever is called: no call of a list answers 1. And no call of any Record answers 0.
+-- A founded Record is sound and stays so, whatever is called: no call of a list answers 1.
 use mathlib.Core.Path.{◌≡◌, refl}
 use mathlib.Core.Bool.{true, not}
 use mathlib.Core.List.{List, [], ◌∷◌}
@@ -54,8 +54,3 @@ pub never_unsound_lem : (r : Record) (cs : List Call) → is_sound r ≡ true
 unfolding every answers
 never_unsound_lem r [] t = refl
 never_unsound_lem r (c ∷ cs) t = both _ _ (respond-not-unsound r c t) (never_unsound_lem (respond r c).state cs (respond_sound r c t))
-
--- whatever the Record
-pub never_zero_lem : (r : Record) (c : Call) → not (is_refusal 0 (respond r c).answer) ≡ true
-unfolding ◌and◌ every respond refusal
-never_zero_lem r c = not_returned 0 (answer r c) (when (not (is_sound r)) unsound ∷ tests r c) (other_tests 0 refl r c)

@@ -1,4 +1,4 @@
--- The numbers of a call's tests after 1: no such test has a number that is none of them.
+-- Which numbers a call's tests after 1 have, and that no refusal has another: none has 0.
 use Prim.Native.Nat.{ℕ}
 use mathlib.Core.Path.{◌≡◌, refl, sym, ◌∙◌}
 use mathlib.Core.Bool.{Bool, true, false, not}
@@ -7,13 +7,16 @@ use lib.Dec.{eqb}
 use borrow.Author.Tests.{eqb-true}
 use Rattle.grain.specs.Lists.{◌and◌, every, is_in}
 use Rattle.grain.proofs.Tests.{and_left, and_right, both}
-use Rattle.record.specs.Refusals.{Test}
+use Rattle.record.specs.Refusals.{Test, when, unsound}
 use Rattle.record.specs.State.{Record}
+use Rattle.record.specs.Sound.{is_sound}
+use Rattle.record.specs.Theorems.{is_refusal}
+use Rattle.record.proofs.Cleared.{not_returned}
 use Rattle.record.specs.Opening.{opening_tests}
 use Rattle.record.specs.Sheet.{sheet_tests}
 use Rattle.record.specs.Check.{terms_tests, order_tests}
 use Rattle.record.specs.Conversion.{conversion_tests}
-use Rattle.record.specs.Record.{opening, sheet, end, convert, check, Call, change, question, tests}
+use Rattle.record.specs.Record.{opening, sheet, end, convert, check, Call, change, question, tests, refusal, answer, respond}
 
 abbrev pub later_numbers : List ℕ
 later_numbers = 2 ∷ 3 ∷ 4 ∷ 5 ∷ 6 ∷ 7 ∷ 8 ∷ 9 ∷ 10 ∷ 11 ∷ 12 ∷ 14 ∷ 16 ∷ 18 ∷ []
@@ -44,3 +47,7 @@ module _ (n : ℕ) (none : is_in n later_numbers ≡ false) where
 
   pub other_tests : (r : Record) (c : Call) → every (λ t. not (eqb t.number n)) (tests r c) ≡ true
   other_tests r c = are_others (tests r c) (later_tests r c)
+
+pub never_zero_lem : (r : Record) (c : Call) → not (is_refusal 0 (respond r c).answer) ≡ true
+unfolding ◌and◌ every respond refusal
+never_zero_lem r c = not_returned 0 (answer r c) (when (not (is_sound r)) unsound ∷ tests r c) (other_tests 0 refl r c)

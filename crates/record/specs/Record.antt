@@ -119,11 +119,11 @@ answer_by None a = accepted a
 abbrev pub order_answer : Terms → ℕ → ℕ → Answer
 order_answer t month price = answer_by (first (order_tests t month price)) (checked (judged t month price))
 
-pub record Result : Type 0 where
+pub record Response : Type 0 where
   pub state : Record
   pub answer : Answer
 
-unfoldable pub respond : Record → Call → Result
+unfoldable pub respond : Record → Call → Response
 respond r c = record { state = state_by r c; answer = answer_by (refusal r c) (answer r c) }
 
 -- the answer to a question

@@ -1,4 +1,4 @@
--- What is shown of the Record, for every list of calls from a founded one. proofs/Proved.antt has the proofs.
+-- What is shown of the Record, nearly all of it for every list of calls from a founded one. proofs/Proved.antt has the proofs.
 use Rattle.std.specs.Prelude.{ℕ, ◌<◌, ◌≤◌, ◌≡◌, Bool, true, false, not, ◌&&◌, cond, List, [], ◌∷◌, ◌++◌, leb, eqb, Some, None}
 use Rattle.std.specs.List.{list_any}
 use Rattle.grain.specs.Lists.{every, is_in, distance}
@@ -90,7 +90,7 @@ pub record Theorems : Type 0 where
   pub never_unsound :
       (s : Start) → founding_refusal s ≡ None → (cs : List Call)
       → every (λ a. not (is_refusal unsound a)) (answers (founded s) cs) ≡ true
-  -- 0 is no refusal's number, whatever the Record: C returns it for an accepted call
+  -- 0 is no refusal's number, whatever the Record
   pub never_zero : (r : Record) (c : Call) → not (is_refusal 0 (respond r c).answer) ≡ true
   -- the state after a list is the replay of its history
   pub replayed : (s : Start) (cs : List Call) → after s cs ≡ replay (history_of s cs) (founded s)
