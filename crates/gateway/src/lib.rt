@@ -6,12 +6,16 @@ ghost use Rattle.std.specs.Prelude.{◌≡◌};
 ghost use Rattle.grain.specs.Bare.{bare_check};
 
 mod calls;
+mod laws;
 mod spans;
 mod tallied;
 
 pub use calls::{
     botskhela_check, botskhela_convert, botskhela_end, botskhela_found, botskhela_open,
     botskhela_sheet,
+};
+pub use laws::{
+    bare_through_one_tally, images_through_one_tally, no_image, whole_images, zero_accepts,
 };
 pub use spans::{Spanned, botskhela_bare_highest, botskhela_bare_lowest, botskhela_check_span};
 pub use tallied::{botskhela_tallied_book_check, botskhela_tallied_check};

@@ -7,6 +7,7 @@ mod amounts;
 mod bare;
 mod check;
 mod dates;
+mod laws;
 mod margin;
 mod prices;
 mod products;
@@ -20,6 +21,7 @@ pub use amounts::{
 pub use bare::{bare_check, checked_number};
 pub use check::{Span, Verdict, judge};
 pub use dates::{is_date, month_length};
+pub use laws::{every_span, step_rounding};
 pub use margin::{DateFacts, date_facts, expanded_limit, season_limits};
 pub use prices::{MAX_PRICE, are_on_tick, is_on_tick, is_settlement};
 pub use products::{

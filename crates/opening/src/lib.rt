@@ -12,12 +12,14 @@ use grain::{PRODUCT_COUNT, Refusal};
 use record::Day;
 
 mod dates;
+mod laws;
 mod refusals;
 mod renewal;
 mod seasons;
 mod standings;
 
 use dates::Dates;
+pub use laws::season_start;
 use renewal::open_products;
 use seasons::SeasonChange;
 use standings::standings_on;

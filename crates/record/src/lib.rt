@@ -1,6 +1,10 @@
 // What the Record and a book both speak of. The Record itself is definitions and theorems: specs/ and proofs/.
 #![tactic(auto)]
 
+mod laws;
+
+pub use laws::theorems;
+
 // A date with its left: the business days of its month after it.
 #[derive(Clone, Copy, Debug, Default, PartialEq, Eq)]
 pub struct Day {

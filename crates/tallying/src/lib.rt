@@ -8,6 +8,10 @@ use book::Book;
 use grain::{Refusal, Verdict};
 use tally::Tally;
 
+mod laws;
+
+pub use laws::books_through_one_tally;
+
 // Numbers, as a check takes them.
 pub fn tallied_check(
     b: &Book,
