@@ -3,6 +3,5 @@ pub mod Words
 pub mod Shape
 pub mod Limits
 pub mod Decimals
-pub mod LineEnd
 pub mod LineCases
 pub mod Reading

@@ -4,9 +4,14 @@ use borrow.Author.Tests.{eq-eqb}
 use Rattle.grain.specs.Lists.{every, is_ascending}
 use Rattle.grain.specs.Products.{is_product}
 use Rattle.grain.specs.Prices.{is_settlement}
-use Rattle.grain.specs.Margin.{refused, gives, season_limits}
-use Rattle.season.specs.SeasonFile.{is_misshapen, is_date_word, product_in, dates_in, settlements_in, with_product, season_line}
+use Rattle.grain.specs.Margin.{Outcome, refused, gives, season_limits}
+use Rattle.season.specs.SeasonFile.{is_misshapen, is_date_word, product_in, dates_in, settlements_in, season_line}
 use Rattle.season.proofs.Words.{length-settlements_in}
+
+-- the product stands before its limits
+abbrev pub with_product : ℕ → Outcome → Outcome
+with_product product (gives values) = gives (product ∷ values)
+with_product product (refused n) = refused n
 
 by_test : (b : Bool) (p : ℕ) (values : List ℕ)
     → with_product p (cond (not b) (refused 8) (gives values)) ≡ cond (not b) (refused 8) (gives (p ∷ values))

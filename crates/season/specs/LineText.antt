@@ -30,5 +30,4 @@ shown (gives values) = spaced values
 shown (refused n) = ascii "refused " ++ decimal n
 
 unfoldable pub line_text : Outcome → List ℕ
-line_text (gives values) = spaced values ++ ascii "\n"
-line_text (refused n) = ascii "refused " ++ decimal n ++ ascii "\n"
+line_text o = shown o ++ ascii "\n"

@@ -55,11 +55,6 @@ values_of s = s.product ∷ s.limits.initial ∷ s.limits.expanded ∷ []
 abbrev pub line_as : Result SeasonLimits Refusal → Outcome
 line_as r = outcome_of values_of r
 
--- the product stands before its limits
-abbrev pub with_product : ℕ → Outcome → Outcome
-with_product product (gives values) = gives (product ∷ values)
-with_product product (refused n) = refused n
-
 -- what the line says, for any bytes: the refusals in their order, then the product and its limits
 unfoldable pub season_line : List ℕ → Outcome
 season_line file =

@@ -1,5 +1,5 @@
 // The line that is written for a file.
-ghost use Rattle.std.specs.Prelude.{[], ◌∷◌, Some};
+ghost use Rattle.std.specs.Prelude.{Some};
 ghost use Rattle.season.specs.SeasonFile.{line_as, values_of};
 ghost use Rattle.season.specs.LineText.{spaced, shown};
 

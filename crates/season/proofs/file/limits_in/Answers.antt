@@ -3,10 +3,10 @@ use Rattle.std.proofs.lemmas.Result.{err_from_is_err_and}
 use Rattle.grain.specs.Lists.{every, is_ascending}
 use Rattle.grain.specs.Products.{is_product}
 use Rattle.grain.proofs.Chains.{every_is}
-use Rattle.season.specs.SeasonFile.{is_misshapen, is_date_word, product_in, dates_in, with_product, season_line}
+use Rattle.season.specs.SeasonFile.{is_misshapen, is_date_word, product_in, dates_in, season_line}
 use Rattle.season.proofs.Shape.{whole, misshapen_unless}
 use Rattle.season.proofs.Words.{product_is, count_is, dates_are, settlements_are}
-use Rattle.season.proofs.Limits.{sound_line}
+use Rattle.season.proofs.Limits.{with_product, sound_line}
 use Rattle.season.proofs.file.limits_in.Goals as goal
 use Rattle.season.proofs.file.limits_in.Goals.{Else-words, Else-not-are_dates, Else-not-is_ascending, Else-not-is_product}
 
