@@ -25,7 +25,9 @@ impl Terms<'_> {
     pub fn judged(&self, month: u32, price: u32) -> Result<Verdict, Refusal>
         ensures { checked_as result ≡ order_answer (view_terms self.now) month price }
     {
-        let settlement = self.listed(month).ok_or(Refusal::NotListed)?;
+        let Some(settlement) = self.listed(month) else {
+            return Err(Refusal::NotListed);
+        };
         if !grain::is_on_tick(self.tick, price) {
             return Err(Refusal::BadPrice);
         }
