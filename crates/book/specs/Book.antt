@@ -32,9 +32,6 @@ limit_in b p = (items_in b p).limit
 abbrev pub window_in : Book → ℕ → Window
 window_in b p = (items_in b p).window
 
-abbrev pub size_of : Book → ℕ → ℕ
-size_of b p = (window_in b p).size
-
 -- the settlements of a product
 abbrev pub window_of : Book → ℕ → List ℕ
 window_of b p = shown (window_in b p)

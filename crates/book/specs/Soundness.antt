@@ -8,7 +8,7 @@ use Rattle.sheets.specs.Sheets.{sheet_in}
 use Rattle.book.specs.declared.Standing.{Standing}
 use Rattle.book.specs.declared.Book.{Book}
 use Rattle.book.specs.declared.product.Product.{Product as Held}
-use Rattle.book.specs.Book.{today_in}
+use Rattle.book.specs.Book.{items_in}
 use Rattle.book.specs.Numbers.{all_products}
 
 -- a product's sheets are there, or not
@@ -26,7 +26,7 @@ has_no_last h = not (is_some (sheet_in h.last))
 
 -- the eight sheets of the open day are there
 abbrev pub are_all_in : Book → Bool
-are_all_in b = every (λ p. is_some (sheet_in (today_in b p))) all_products
+are_all_in b = every (λ p. has_today (items_in b p)) all_products
 
 -- the last ended sheets are all there, with a date, or none is
 abbrev pub are_last_sound : Option Day → List Held → Bool

@@ -1,4 +1,4 @@
-// The trade date of a day that a book holds, and the open day with its own.
+// A day's trade date, and the open day with its trade date.
 ghost use Rattle.std.specs.Prelude.{◌≡◌, true};
 ghost use Rattle.record.specs.Opening.{is_true_day};
 ghost use Rattle.record.specs.State.{trade_date};

@@ -1,4 +1,4 @@
-// The editions of the rule that a book can be founded under, by year. What each asks at the end of a day is the end's.
+// The editions of the rule that a book can be founded under, by year.
 // Numbers, as callers have them: any other is refused with 17 at a founding, and with 1 in an image.
 ghost use Rattle.std.specs.Prelude.{◌≡◌};
 ghost use Rattle.record.specs.Edition.{is_edition, conditions_of};

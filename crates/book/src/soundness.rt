@@ -6,7 +6,7 @@ ghost use Rattle.record.specs.Opening.{is_true_day};
 ghost use Rattle.record.specs.Sound.{is_sound_date, is_sound_product, is_sound};
 ghost use Rattle.book.specs.Book.{no_items, view_held, view};
 ghost use Rattle.book.specs.Numbers.{all_products};
-ghost use Rattle.book.specs.Soundness.{is_mark_sound, has_today, has_last, has_no_today, has_no_last, are_all_in, are_last_sound};
+ghost use Rattle.book.specs.Soundness.{is_mark_sound, has_no_today, are_all_in, are_last_sound};
 
 use crate::editions::{has_marks, is_edition};
 use crate::{Book, Product, Standing};

@@ -9,11 +9,11 @@ use Rattle.book.specs.Calls.{Responds, answer_as}
 abbrev pub converted_as : Result (Unit {0}) Refusal → Answer
 converted_as r = answer_as (λ _. converted) r
 
--- a book with its edition changed, and nothing else; one under 2023 is the very book
+-- a book with its edition changed
 abbrev pub with_2023 : Book → Book
 with_2023 b = record b { edition = 2023 }
 
 pub record Converts (b : Book) (r : Result (Unit {0}) Refusal) (after : Book) : Type 0 where
   pub responds : Responds b convert (converted_as r) after
-  -- nothing else changes, not even an unused place
+  -- accepted, it changes the edition and nothing else, unused places included
   pub book : refusal (view b) (change convert) ≡ None → after ≡ with_2023 b

@@ -10,7 +10,7 @@ mod refusals;
 
 use refusals::refusal_of;
 
-// Nothing but the edition changes; a book under 2023 stays as it is.
+// A book under 2023 stays the very book.
 pub fn convert(b: &mut Book) -> Result<(), Refusal>
     ensures { Converts b.old result b.new }
 {

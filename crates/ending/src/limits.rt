@@ -1,6 +1,5 @@
 // The limits of a product after its group's event: a raise gives I = old E and E afresh.
-ghost use Rattle.std.specs.Prelude.{◌≡◌, ◌<◌};
-ghost use Rattle.grain.specs.Products.{product_count};
+ghost use Rattle.std.specs.Prelude.{◌≡◌};
 ghost use Rattle.record.specs.End.{is_raised};
 ghost use Rattle.ending.specs.Ends.{limit_after};
 

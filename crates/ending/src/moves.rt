@@ -6,7 +6,7 @@ ghost use Rattle.ending.specs.Lead.{Readable};
 use book::{Book, Product};
 use grain::TradeDate;
 
-// Of all groups: the book whose open day has the date.
+// The moves of all groups: the book, and the trade date of its open day.
 #[derive(Clone, Copy, Debug, PartialEq, Eq)]
 pub(crate) struct DayMoves<'a> {
     pub(crate) book: &'a Book,

@@ -1,17 +1,15 @@
 -- Facts of the product table, each computed over the eight products at once.
-use Prim.Native.Nat.{ℕ, ◌^◌, ◌<◌, ◌≤◌}
+use Prim.Native.Nat.{ℕ, ◌<◌, ◌≤◌}
 use mathlib.Core.Path.{◌≡◌, refl}
 use mathlib.Core.List.{List}
 use mathlib.Core.Bool.{Bool, true, false, cond}
 use native.Mathlib.Nat.{zero-mul}
-use mir.Syntax.{w32}
-use mir.Val.{Fits}
 use lib.Dec.{ltb, leb, eqb}
 use lib.ListN.{length, get_or, get_or-eq_default}
 use borrow.Author.Tests.{ltb-true, leb-true}
 use Rattle.grain.specs.Products.{steps, floors, standard_ticks, mini_ticks, step_of, floor_of, tick_of}
 use Rattle.grain.specs.Amounts.{expanded_by, expanded_of}
-use Rattle.grain.proofs.Below.{below, all_below}
+use Rattle.grain.proofs.Below.{below}
 
 -- a column has nothing past the eight products
 pub beyond : (xs : List ℕ) (p : ℕ) → length xs ≡ 8 → 8 ≤ p → get_or xs p 0 ≡ 0
@@ -43,7 +41,3 @@ tick_beyond p size l =
 pub expanded_beyond : (p i : ℕ) → 8 ≤ p → expanded_of p i ≡ 0
 unfolding expanded_by steps
 expanded_beyond p i l = rw (beyond steps p refl l, zero-mul)
-
--- a column's entries fit 32 bits
-pub column_fits : (xs : List ℕ) (n : ℕ) → all_below n (λ p. ltb (get_or xs p 0) (2 ^ 32)) ≡ true → (p : ℕ) → p < n → Fits w32 (get_or xs p 0)
-column_fits xs n t p l = record { fits = ltb-true _ _ (below n (λ p. ltb (get_or xs p 0) (2 ^ 32)) t p l) }

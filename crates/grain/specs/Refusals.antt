@@ -11,7 +11,7 @@ unsound = 1
 abbrev pub wrong_phase : ℕ
 wrong_phase = 2
 
--- no such date
+-- no such date, or left above the days remaining in the month
 abbrev pub no_such_date : ℕ
 no_such_date = 3
 
@@ -23,7 +23,7 @@ not_later = 4
 abbrev pub no_such_product : ℕ
 no_such_product = 5
 
--- a season file misshapen, or not 45 settlements
+-- a sheet whose arrays differ in length, or have 0 or over 16 entries; a season file misshapen, or not 45 settlements
 abbrev pub misshapen : ℕ
 misshapen = 6
 
@@ -51,7 +51,7 @@ already_in = 11
 abbrev pub sheet_outstanding : ℕ
 sheet_outstanding = 12
 
--- an amount unfit
+-- founding limit or other amount unfit
 abbrev pub unfit_amount : ℕ
 unfit_amount = 13
 

@@ -7,13 +7,13 @@ use Rattle.grain.specs.Check.{span_by, verdict, is_within}
 use Rattle.grain.specs.declared.check.Span.{Span}
 
 pub record SpanOf (p size settlement limit : ℕ) (s : Span) : Type 0 where
-  -- both ends are prices that pass 8
+  -- both ends are prices on the size's tick
   pub lowest_passes : is_price p size s.lowest ≡ true
   pub highest_passes : is_price p size s.highest ≡ true
   -- the settlement is between them
   pub from_lowest : s.lowest ≤ settlement
   pub to_highest : settlement ≤ s.highest
-  -- of the prices that pass 8, exactly those from the one end to the other are within
+  -- of the prices on the size's tick, exactly those from the one end to the other are within
   pub within :
       (price : ℕ) → is_price p size price ≡ true
       → is_within (verdict false (tick_of p size) settlement limit price) ≡ (leb s.lowest price && leb price s.highest)

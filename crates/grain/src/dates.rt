@@ -34,7 +34,7 @@ pub fn month_length(year: u32, month: u32) -> u32
     28
 }
 
-// Three numbers: which of them are a date, this says.
+// Whether three numbers are a date.
 #[tactic(auto, unfolding(crate::specs::Dates::is_date))]
 pub fn is_date(year: u32, month: u32, day: u32) -> bool
     ensures { result ≡ is_date year month day }

@@ -56,7 +56,7 @@ pub struct DateFacts {
     pub remaining: u32,
 }
 
-// Three numbers, which may be no date.
+// What the calendar tells of three numbers, or 3 where they are no date.
 pub fn date_facts(year: u32, month: u32, day: u32) -> Result<DateFacts, Refusal>
     ensures { date_facts_as result ≡ date_facts year month day }
 {

@@ -8,7 +8,7 @@ use record::{Contract, MAX_CONTRACTS};
 #[derive(Clone, Copy, Debug, Default, PartialEq, Eq)]
 pub struct Sheet {
     pub contracts: [Contract; MAX_CONTRACTS],
-    // How many of the places are used; 0 where there is no sheet, and then an image from C keeps what it has in the places.
+    // How many of the places are used; 0 where there is no sheet. The others may hold anything.
     pub len: usize,
 }
 

@@ -33,7 +33,7 @@ impl Window {
         &self.settlements[..self.size.min(WINDOW_LENGTH)]
     }
 
-    // One settlement more, after which the window has the last 45; one of a damaged size stays as it is.
+    // One settlement more, after which the window has the last 45; a window of a damaged size stays as it is.
     pub fn collect(&mut self, settlement: u32)
         ensures { Collects self.old settlement self.new }
     {
