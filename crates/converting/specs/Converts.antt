@@ -15,5 +15,5 @@ with_2023 b = record b { edition = 2023 }
 
 pub record Converts (b : Book) (r : Result (Unit {0}) Refusal) (after : Book) : Type 0 where
   pub responds : Responds b convert (converted_as r) after
-  -- accepted, it changes the edition and nothing else, unused places included
+  -- accepted, it changes the edition and nothing else: unused places stay too
   pub book : refusal (view b) (change convert) ≡ None → after ≡ with_2023 b

@@ -1,4 +1,4 @@
--- 0 is returned where a call is accepted, and nowhere else.
+-- A change or a founding returns 0 where it is accepted, and nowhere else.
 use Prim.Native.Nat.{ℕ}
 use mathlib.Core.Path.{◌≡◌, refl, ◌∙◌, ap}
 use mathlib.Core.Bool.{Bool, true, false, not}

@@ -109,7 +109,7 @@ pub record WholeImages : Type 0 where
       → SameFor g (history_of s cs) (history_of s ds) → (p size month price : ℕ) → group_of p ≡ g
       → image_check y p size month price ≡ image_check z p size month price
 
--- Whatever words are lent: 0 is returned where the call is accepted, and nowhere else.
+-- Whatever words are lent: a change or a founding returns 0 where it is accepted, and nowhere else.
 pub record ZeroAccepts : Type 0 where
   pub changes :
       (ws now : List ℕ) (c : Change) (n : ℕ) → RespondsImage ws c n now

@@ -54,8 +54,9 @@ has_last q = is_some q.last
 abbrev pub has_no_last : Product → Bool
 has_no_last q = not (is_some q.last)
 
--- an edition of the rule; no sheet in while no day is open; last ended sheets all, with a date, or none. Of the groups that the Record has:
--- those of the table, as a founded Record has them and every call keeps them
+-- an edition of the rule; no sheet in while no day is open; last ended sheets all, with a date, or none
+-- It judges the groups that the Record has, and does not ask that they are those of the table: a founded Record has those, and every call
+-- keeps them.
 unfoldable pub is_sound : Record → Bool
 is_sound r =
     is_edition r.common.edition and is_sound_date r.common.opened r.common.is_open

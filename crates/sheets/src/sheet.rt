@@ -8,7 +8,7 @@ use record::{Contract, MAX_CONTRACTS};
 #[derive(Clone, Copy, Debug, Default, PartialEq, Eq)]
 pub struct Sheet {
     pub contracts: [Contract; MAX_CONTRACTS],
-    // How many of the places are used; 0 where there is no sheet. The others may hold anything.
+    // How many of the places are used; 0 where there is no sheet. Places that are not used may hold anything.
     pub len: usize,
 }
 
