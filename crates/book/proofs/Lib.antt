@@ -4,10 +4,12 @@ pub mod Either
 pub mod Everies
 pub mod Shown
 pub mod SoundFacts
+pub mod Flags
 pub mod SheetsIn
 pub mod TradeDates
 pub mod Founded
 pub mod NoBook
+mod Zeros
 pub mod Views
 pub mod TodaysLimit
 pub mod SoundnessFirst
@@ -16,6 +18,5 @@ pub mod FoundingNumbers
 pub mod Phases
 pub mod ProductTests
 pub mod Items
-pub mod Defaults
 pub mod OpenDays
 pub mod LastSheets

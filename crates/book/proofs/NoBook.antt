@@ -1,20 +1,18 @@
--- The book of words that hold none is unsound, so that every call on it is refused with 1.
-use mathlib.Core.Path.{◌≡◌, refl}
+-- A struct that is no book of this format, or has a flag that is none, is unsound, so that every call on it is refused with 1.
+use mathlib.Core.Path.{◌≡◌}
 use mathlib.Core.Bool.{false}
-use Rattle.grain.specs.Lists.{◌and◌, every}
-use Rattle.grain.specs.Products.{floors}
-use Rattle.grain.specs.Amounts.{is_fit}
-use Rattle.record.specs.State.{group_table}
+use Rattle.grain.specs.Lists.{◌and◌}
 use Rattle.record.specs.Refusals.{unsound}
-use Rattle.record.specs.Sound.{is_sound_product, is_sound_group, is_sound_date, is_sound}
+use Rattle.record.specs.Sound.{is_sound}
 use Rattle.record.specs.Record.{Call, refused, refusal, respond}
-use Rattle.book.specs.Book.{view_group, view_common, view, view_held}
-use Rattle.book.specs.Founding.{no_book}
+use Rattle.book.specs.declared.Book.{Book}
+use Rattle.book.specs.Book.{is_book, edition_in, view_common, view}
 
-pub no_book-unsound : is_sound (view no_book) ≡ false
-unfolding is_sound is_sound_date is_sound_group is_sound_product is_fit floors every ◌and◌ view view_common view_group view_held group_table no_book
-no_book-unsound = refl
+module _ (b : Book) (no : is_book b ≡ false) where
+  pub no_book-unsound : is_sound (view b) ≡ false
+  unfolding is_sound ◌and◌ view view_common edition_in
+  no_book-unsound = rw no
 
-pub no_book_refuses : (c : Call) → (respond (view no_book) c).answer ≡ refused unsound
-unfolding respond refusal
-no_book_refuses c = rw no_book-unsound
+  pub no_book_refuses : (c : Call) → (respond (view b) c).answer ≡ refused unsound
+  unfolding respond refusal
+  no_book_refuses c = rw no_book-unsound

@@ -7,7 +7,7 @@ use Rattle.record.specs.Opening.{is_true_day}
 use Rattle.record.specs.Sound.{is_sound}
 use Rattle.book.specs.declared.Book.{Book}
 use Rattle.book.specs.declared.dates.OpenDay.{OpenDay}
-use Rattle.book.specs.Book.{view}
+use Rattle.book.specs.Book.{is_set, opened_in, view}
 use Rattle.book.specs.Phase.{phase_refusal, OffersDay}
 use Rattle.book.proofs.Phases.{Passes, passed}
 use Rattle.book.proofs.SoundFacts.{open_day, true_day}
@@ -20,14 +20,14 @@ module _ (b : Book) (e : None ≡ phase_refusal true (view b)) where
   pub is_sound_open : is_sound (view b) ≡ true
   is_sound_open = passes.sound
 
-  pub is_open_on : b.is_open ≡ true
+  pub is_open_on : is_set b.is_open ≡ true
   is_open_on = sym (open_is b) ∙ not-false _ passes.phase
 
-  pub has_day : b.opened ≡ None → ⊥
+  pub has_day : opened_in b ≡ None → ⊥
   has_day none = open_day b is_sound_open is_open_on none
 
-  pub true_on : (d : Day) → b.opened ≡ Some d → is_true_day d ≡ true
+  pub true_on : (d : Day) → opened_in b ≡ Some d → is_true_day d ≡ true
   true_on d is = true_day b is_sound_open d is
 
-  pub offers : (d : OpenDay) → b.opened ≡ Some d.day → OffersDay b (Ok d)
+  pub offers : (d : OpenDay) → opened_in b ≡ Some d.day → OffersDay b (Ok d)
   offers d is = record { refusal = e; day = λ x ok. let same : d ≡ x = cc in rw (← same) is }

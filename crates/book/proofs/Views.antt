@@ -13,7 +13,7 @@ use Rattle.record.specs.Record.{Change, next, next_common, next_group}
 use Rattle.record.specs.History.{products_of}
 use Rattle.record.proofs.GroupTable.{group_small, own_group, small_products}
 use Rattle.book.specs.declared.Book.{Book}
-use Rattle.book.specs.Book.{view_product, view_group, view_groups, view_common, view, view_held}
+use Rattle.book.specs.Book.{is_set, view_product, view_group, view_groups, view_common, view}
 use Rattle.book.specs.Numbers.{all_groups}
 use Rattle.book.proofs.Numbers.{value_at, map_same}
 use Rattle.std.proofs.lemmas.Simd.{map-map}
@@ -34,7 +34,7 @@ group_is b g l =
 
 -- a product in its own group
 found_shown : (b : Book) (p : ℕ) (ps : List ℕ) → is_in p ps ≡ true → find p (map (view_product b) ps) ≡ view_product b p
-unfolding view_held
+unfolding view_product
 found_shown b p [] t = absurd (false≢true t)
 found_shown b p (q ∷ ps) t = go (eqb p q) refl (found_shown b p ps)
   where
@@ -49,7 +49,7 @@ product_is b p l =
     ap (λ (g : Group). product_in g p) (group_is b (group_of p) (group_small p l))
     ∙ found_shown b p (products_of (group_of p)) (own_group p l)
 
-pub open_is : (b : Book) → (view b).common.is_open ≡ b.is_open
+pub open_is : (b : Book) → (view b).common.is_open ≡ is_set b.is_open
 unfolding view view_common
 open_is b = refl
 

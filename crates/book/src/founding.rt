@@ -2,12 +2,16 @@
 ghost use Rattle.std.specs.Prelude.{◌≡◌};
 ghost use Rattle.record.specs.Founding.{are_fit, founded};
 ghost use Rattle.book.specs.Book.{view};
-ghost use Rattle.book.specs.Founding.{founded_items, no_book, Founds};
+ghost use Rattle.book.specs.Founding.{no_book, Founds};
 
 use crate::editions::is_edition;
-use crate::{Book, Product};
+use crate::shape::FORMAT;
+use crate::{Book, Standing};
 use grain::{Limit, PRODUCT_COUNT, Refusal};
+use record::{Day, GROUP_COUNT};
+use sheets::Sheet;
 use std::array;
+use windows::Windows;
 
 fn are_fit(limits: &[u32; PRODUCT_COUNT]) -> bool
     ensures { result ≡ are_fit limits.now }
@@ -19,21 +23,21 @@ fn are_fit(limits: &[u32; PRODUCT_COUNT]) -> bool
 }
 
 impl Book {
-    // All zeros, which is unsound, as 0 is no edition: every call on it is refused.
+    // All zeros, which is of no format: every call on it is refused.
     pub fn none() -> Book
         ensures { result ≡ no_book }
     {
-        Book::default()
-    }
-}
-
-// A product's initial limit with its E, and nothing else.
-fn founded(product: u32, initial: u32) -> Product
-    ensures { result ≡ founded_items product initial }
-{
-    Product {
-        limit: Limit::of(product, initial),
-        ..Product::none()
+        Book {
+            format: 0,
+            edition: 0,
+            is_open: 0,
+            day: Day::default(),
+            limits: [Limit::default(); PRODUCT_COUNT],
+            standings: [Standing::default(); GROUP_COUNT],
+            windows: Windows::none(),
+            today: [Sheet::none(); PRODUCT_COUNT],
+            last: [Sheet::none(); PRODUCT_COUNT],
+        }
     }
 }
 
@@ -42,8 +46,9 @@ fn fresh(edition: u32, limits: [u32; PRODUCT_COUNT]) -> Book
     ensures { view result ≡ founded (record { edition = edition; limits = limits }) }
 {
     Book {
+        format: FORMAT,
         edition,
-        products: array::from_fn(|p| founded(p as u32, limits[p])),
+        limits: array::from_fn(|p| Limit::of(p as u32, limits[p])),
         ..Book::none()
     }
 }

@@ -16,8 +16,8 @@ impl Book {
         if PRODUCT_COUNT <= p {
             return 0;
         }
-        let limit = self.products[p].limit;
-        if self.standings[group_of(p)].expanded {
+        let limit = self.limits[p];
+        if self.standings[group_of(p)].is_expanded() {
             return limit.expanded;
         }
         limit.initial

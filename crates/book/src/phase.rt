@@ -16,7 +16,7 @@ impl Book {
         if !self.is_sound() {
             return Err(Refusal::Unsound);
         }
-        if self.is_open != is_open {
+        if self.has_open_day() != is_open {
             return Err(Refusal::WrongPhase);
         }
         Ok(())
@@ -28,7 +28,7 @@ impl Book {
     {
         self.expect(true)?;
         // A sound book has a day, and its trade date, where a day is open.
-        let day = self.opened.ok_or(Refusal::Unsound)?;
+        let day = self.opened().ok_or(Refusal::Unsound)?;
         let date = trade_date(day).ok_or(Refusal::Unsound)?;
         Ok(OpenDay { day, date })
     }

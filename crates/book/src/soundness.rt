@@ -1,16 +1,23 @@
 // Whether a book is sound: every field in its range, and the parts in agreement.
-ghost use Rattle.std.specs.Prelude.{◌≡◌, ◌||◌, get_or};
+ghost use Rattle.std.specs.Prelude.{◌≡◌, ◌<◌, leb, eqb, length};
 ghost use Rattle.std.specs.List.{list_all};
-ghost use Rattle.grain.specs.Lists.{every};
+ghost use Rattle.grain.specs.Amounts.{window_length, expanded_of, is_fit_amount};
+ghost use Rattle.grain.specs.Lists.{◌and◌, every};
+ghost use Rattle.grain.specs.Prices.{is_settlement};
+ghost use Rattle.grain.specs.Products.{product_count};
 ghost use Rattle.record.specs.Opening.{is_true_day};
 ghost use Rattle.record.specs.Sound.{is_sound_date, is_sound_product, is_sound};
-ghost use Rattle.book.specs.Book.{no_items, view_held, view};
+ghost use Rattle.windows.specs.Windows.{shown};
+ghost use Rattle.book.specs.Book.{view_product, view};
 ghost use Rattle.book.specs.Numbers.{all_products};
-ghost use Rattle.book.specs.Soundness.{is_mark_sound, has_no_today, are_all_in, are_last_sound};
+ghost use Rattle.book.specs.Soundness.{is_mark_sound, is_there, is_missing, are_all_in, are_last_sound};
 
 use crate::editions::{has_marks, is_edition};
-use crate::{Book, Product, Standing};
+use crate::{Book, Standing};
+use grain::{Limit, PRODUCT_COUNT};
 use record::Day;
+use sheets::Sheet;
+use windows::Windows;
 
 // A date, with left at most the days remaining in its month.
 pub fn is_true_day(d: Day) -> bool
@@ -30,13 +37,13 @@ fn is_sound_date(opened: Option<Day>, is_open: bool) -> bool
 }
 
 // A mark only on an expanded group, and none in an edition without marks.
-fn is_mark_sound(has_marks: bool, standing: Standing) -> bool
-    ensures { result ≡ is_mark_sound has_marks standing }
+fn is_mark_sound(has_marks: bool, standing: &Standing) -> bool
+    ensures { result ≡ is_mark_sound has_marks standing.now }
 {
-    if !standing.marked {
+    if !standing.is_marked() {
         return true;
     }
-    if !standing.expanded {
+    if !standing.is_expanded() {
         return false;
     }
     has_marks
@@ -45,42 +52,75 @@ fn is_mark_sound(has_marks: bool, standing: Standing) -> bool
 fn are_marks_sound(has_marks: bool, standings: &[Standing]) -> bool
     ensures { result ≡ list_all (is_mark_sound has_marks) standings.now }
 {
-    standings.iter().all(|s| is_mark_sound(has_marks, *s))
+    standings.iter().all(|s| is_mark_sound(has_marks, s))
+}
+
+fn is_sound_limit(product: u32, limit: Limit) -> bool
+    ensures { result ≡ (is_fit_amount product limit.initial and eqb limit.expanded (expanded_of product limit.initial)) }
+{
+    if !grain::is_fit_amount(product, limit.initial) {
+        return false;
+    }
+    limit.expanded == grain::expanded(product, limit.initial)
+}
+
+fn is_sound_window(windows: &Windows, p: usize) -> bool
+    requires { p < product_count }
+    ensures { result ≡ (leb (length (shown windows.now p)) window_length and every (is_settlement p) (shown windows.now p)) }
+{
+    if !windows.fits(p) {
+        return false;
+    }
+    grain::are_on_tick(grain::tick(p as u32, 0), windows.kept(p))
+}
+
+#[tactic(auto, using(crate::proofs::ProductTests::product_tests))]
+fn is_sound_product(b: &Book, p: usize) -> bool
+    requires { p < product_count }
+    ensures { result ≡ is_sound_product (view_product b.now p) }
+{
+    let product = p as u32;
+    is_sound_limit(product, b.limits[p])
+        && is_sound_window(&b.windows, p)
+        && b.today[p].is_sound(product)
+        && b.last[p].is_sound(product)
 }
 
 fn are_products_sound(b: &Book) -> bool
-    ensures { result ≡ every (λ p. is_sound_product (view_held (get_or b.now.products p no_items) p)) all_products }
+    ensures { result ≡ every (λ p. is_sound_product (view_product b.now p)) all_products }
 {
     // No chain: with `all` a check takes 3% more instructions.
-    for (p, product) in b.products.iter().enumerate() {
-        if !product.is_sound(p as u32) {
+    for p in 0..PRODUCT_COUNT {
+        if !is_sound_product(b, p) {
             return false;
         }
     }
     true
 }
 
-// No sheet in while no day is open.
-fn is_phase_sound(is_open: bool, products: &[Product]) -> bool
-    ensures { result ≡ (is_open || list_all has_no_today products.now) }
+fn are_there(sheets: &[Sheet]) -> bool
+    ensures { result ≡ list_all is_there sheets.now }
 {
-    if is_open {
-        return true;
-    }
-    products.iter().all(|q| q.today.is_none())
+    sheets.iter().all(|s| !s.is_none())
+}
+
+fn are_missing(sheets: &[Sheet]) -> bool
+    ensures { result ≡ list_all is_missing sheets.now }
+{
+    sheets.iter().all(|s| s.is_none())
 }
 
 // The last ended sheets are all there, with a date, or none is.
-fn are_last_sound(opened: Option<Day>, products: &[Product]) -> bool
-    ensures { result ≡ are_last_sound opened products.now }
+fn are_last_sound(opened: Option<Day>, last: &[Sheet]) -> bool
+    ensures { result ≡ are_last_sound opened last.now }
 {
-    if products.iter().all(|q| q.last.is_none()) {
+    if are_missing(last) {
         return true;
     }
     if opened.is_none() {
         return false;
     }
-    products.iter().all(|q| !q.last.is_none())
+    are_there(last)
 }
 
 impl Book {
@@ -88,18 +128,20 @@ impl Book {
     pub fn are_all_in(&self) -> bool
         ensures { result ≡ are_all_in self.now }
     {
-        self.products.iter().all(|q| !q.today.is_none())
+        are_there(&self.today)
     }
 
+    // No sheet is in while no day is open.
     #[tactic(auto, using(crate::proofs::Shown::sound_tests))]
     pub fn is_sound(&self) -> bool
         ensures { result ≡ is_sound (view self.now) }
     {
-        is_edition(self.edition)
-            && is_sound_date(self.opened, self.is_open)
+        self.is_book()
+            && is_edition(self.edition)
+            && is_sound_date(self.opened(), self.has_open_day())
             && are_marks_sound(has_marks(self.edition), &self.standings)
             && are_products_sound(self)
-            && is_phase_sound(self.is_open, &self.products)
-            && are_last_sound(self.opened, &self.products)
+            && (self.has_open_day() || are_missing(&self.today))
+            && are_last_sound(self.opened(), &self.last)
     }
 }

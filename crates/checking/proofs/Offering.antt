@@ -19,7 +19,7 @@ use Rattle.record.specs.Sound.{is_sound}
 use Rattle.record.specs.Record.{terms_in, terms_refusal}
 use Rattle.sheets.specs.Sheets.{entries_of}
 use Rattle.book.specs.declared.Book.{Book}
-use Rattle.book.specs.Book.{last_in, view}
+use Rattle.book.specs.Book.{opened_in, last_in, view}
 use Rattle.book.specs.Phase.{phase_refusal}
 use Rattle.book.proofs.Phases.{refused_early, decided_late}
 use Rattle.book.proofs.LastSheets.{last_is}
@@ -48,7 +48,7 @@ module _ (b : Book) (p size : ℕ) where
 
   module _ (sound : is_sound (view b) ≡ true) where
     pub terms_are : (tick limit : ℕ) (date : TradeDate) → p < 8 → tick ≡ tick_of p size → limit ≡ todays_limit (group_at (view b) (group_of p)) p
-        → (d : Day) → b.opened ≡ Some d → date ≡ trade_date d
+        → (d : Day) → opened_in b ≡ Some d → date ≡ trade_date d
         → ◌≡◌ {A = Terms} (record { tick = tick; limit = limit; date = date; last = entries_of (last_in b p) }) (terms_in (view b) p size)
     terms_are tick limit date h tick_is limit_is d opened date_is = rw (tick_is, limit_is, date_is, day_in b d opened, last_is b sound p h)
 

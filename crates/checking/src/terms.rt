@@ -29,7 +29,7 @@ impl<'a> Terms<'a> {
             tick,
             limit: b.limit_of(p),
             date,
-            last: &b.products[p].last,
+            last: &b.last[p],
         })
     }
 }

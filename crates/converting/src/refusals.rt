@@ -2,16 +2,16 @@
 ghost use Rattle.std.specs.Prelude.{◌≡◌};
 ghost use Rattle.std.specs.List.{list_any};
 ghost use Rattle.record.specs.Record.{convert, change, refusal};
-ghost use Rattle.book.specs.Book.{view};
+ghost use Rattle.book.specs.Book.{is_set, view};
 ghost use Rattle.book.specs.Calls.{refusal_in};
 
 use book::{Book, EDITION_2014, Standing};
 use grain::Refusal;
 
 fn has_expanded(standings: &[Standing]) -> bool
-    ensures { result ≡ list_any (λ s. s.expanded) standings.now }
+    ensures { result ≡ list_any (λ s. is_set s.expanded) standings.now }
 {
-    standings.iter().any(|s| s.expanded)
+    standings.iter().any(|s| s.is_expanded())
 }
 
 #[tactic(auto, using(crate::proofs::Conversions::phase_refuses, crate::proofs::Conversions::levels_decide))]

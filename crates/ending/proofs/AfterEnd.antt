@@ -1,7 +1,7 @@
 -- What an ended day leaves shows the Record's end.
 use Prim.Native.Nat.{ℕ, ◌<◌}
 use mathlib.Core.Path.{◌≡◌, refl, sym, ◌∙◌, ap}
-use mathlib.Core.Bool.{Bool, false, ◌&&◌}
+use mathlib.Core.Bool.{Bool, true, false, ◌&&◌}
 use mathlib.Core.List.{List, map}
 use lib.ListN.{get_or}
 use borrow.Author.Tests.{ltb-true, eqb-true}
@@ -20,9 +20,8 @@ use Rattle.record.specs.Record.{end, change, ended, answer, next, next_common, n
 use Rattle.record.specs.History.{products_of}
 use Rattle.record.proofs.GroupTable.{is_member, members}
 use Rattle.book.specs.declared.Book.{Book}
-use Rattle.book.specs.Book.{standing_in, level_of, view_product, view_group, view_groups, view_common, view}
+use Rattle.book.specs.Book.{flag_word, is_set, edition_in, opened_in, standing_in, level_of, view_product, view_group, view_groups, view_common, view}
 use Rattle.book.specs.Numbers.{all_groups}
-use Rattle.book.proofs.Shown.{has_marks}
 use Rattle.book.proofs.Numbers.{value_at}
 use Rattle.std.proofs.lemmas.Simd.{map-map}
 use Rattle.book.proofs.Views.{shown_group, groups_are, same_groups, products_view, next-view}
@@ -47,44 +46,54 @@ pub record Leaves (b z : Book) (es : List Event) : Type 0 where
       → standing_in z g ≡ standing_of_end b (trade_date (today b)) es g
   pub products : (p : ℕ) → p < product_count
       → view_product z p ≡ end_product (today b) (get_or es (group_of p) quiet) (view_product b p)
-  pub edition : z.edition ≡ b.edition
-  pub opened : z.opened ≡ b.opened
-  pub is_open : z.is_open ≡ false
+  pub edition : edition_in z ≡ edition_in b
+  pub opened : opened_in z ≡ opened_in b
+  pub is_open : is_set z.is_open ≡ false
 
--- the event of a group as it is shown
-event_is : (b : Book) (g : ℕ) (ps : List ℕ)
-    → group_event (view_common b) (view_group b g ps)
-    ≡ event_of (conditions_of b.edition) (level_of (standing_in b g).expanded) (standing_in b g).marked (moves_today b ps)
-unfolding group_event group_moves moves_of view_group view_common
-event_is b g ps = refl
-
-events_are : (b : Book) → map (group_event (view_common b)) (view_groups b 0 group_table) ≡ map (event_today b) all_groups
-events_are b =
-    ap (map (group_event (view_common b))) (groups_are b)
-    ∙ map-map (group_event (view_common b)) (shown_group b) all_groups
-    ∙ same_groups (λ g. group_event (view_common b) (shown_group b g)) (event_today b) (λ g l. event_is b g (products_of g))
+-- the event of a group under an edition
+abbrev event_under : ℕ → Book → ℕ → List ℕ → Event
+event_under edition b g ps =
+    event_of (conditions_of edition) (level_of (is_set (standing_in b g).expanded)) (is_set (standing_in b g).marked) (moves_today b ps)
 
 -- what an end makes of a group
 abbrev group_after : Bool → Day → Event → List (List Move) → List Product → Group
 group_after marks d e mss qs =
     record { level = level_after e; mark = mark_after e (marks && list_any (list_any is_at_expanded) mss); products = map (end_product d e) qs }
 
-group_after_lem : (b : Book) (g : ℕ)
-    → end_group (view_common b) (view_group b g (products_of g))
-    ≡ group_after (has_marks b) (today b) (event_today b g) (moves_today b (products_of g)) (map (view_product b) (products_of g))
-unfolding end_group group_moves moves_of view_group view_common
-group_after_lem b g =
-    let ps = products_of g in
-    ap (λ (e : Event). group_after (has_marks b) (today b) e (moves_today b ps) (map (view_product b) ps)) (event_is b g ps)
+-- and of its group
+abbrev group_under : ℕ → Book → ℕ → List ℕ → Group
+group_under edition b g ps =
+    group_after (conditions_of edition).has_marks (today b) (event_under edition b g ps) (moves_today b ps) (map (view_product b) ps)
 
-level_of_lem : (e : Event) → level_of (is_expanded (level_after e)) ≡ level_after e
+-- the edition that a book shows is its own
+module _ (b : Book) (own : edition_in b ≡ b.edition) where
+  -- the event of a group as it is shown
+  event_is : (g : ℕ) (ps : List ℕ) → group_event (view_common b) (view_group b g ps) ≡ event_under b.edition b g ps
+  unfolding group_event group_moves moves_of view_group view_common
+  event_is g ps = ap (λ n. event_under n b g ps) own
+
+  events_are : map (group_event (view_common b)) (view_groups b 0 group_table) ≡ map (event_today b) all_groups
+  events_are =
+      ap (map (group_event (view_common b))) (groups_are b)
+      ∙ map-map (group_event (view_common b)) (shown_group b) all_groups
+      ∙ same_groups (λ g. group_event (view_common b) (shown_group b g)) (event_today b) (λ g l. event_is g (products_of g))
+
+  group_after_lem : (g : ℕ) → end_group (view_common b) (view_group b g (products_of g)) ≡ group_under b.edition b g (products_of g)
+  unfolding end_group group_event group_moves moves_of view_group view_common
+  group_after_lem g = ap (λ n. group_under n b g (products_of g)) own
+
+set_flag : (x : Bool) → is_set (flag_word x) ≡ x
+set_flag true = refl
+set_flag false = refl
+
+level_of_lem : (e : Event) → level_of (is_set (flag_word (is_expanded (level_after e)))) ≡ level_after e
 level_of_lem Quiet = refl
 level_of_lem (Triggered l) = refl
 level_of_lem (Held l) = refl
 level_of_lem Reverted = refl
 level_of_lem (Raised l) = refl
 
-module _ (b z : Book) (es : List Event) (after : Leaves b z es) where
+module _ (b z : Book) (es : List Event) (own : edition_in b ≡ b.edition) (after : Leaves b z es) where
   event_at : (g : ℕ) → g < group_count → get_or es g quiet ≡ event_today b g
   event_at g l = ap (λ (l : List Event). get_or l g quiet) after.events ∙ value_at quiet (event_today b) group_count g l
 
@@ -93,11 +102,12 @@ module _ (b z : Book) (es : List Event) (after : Leaves b z es) where
   group_shown g l =
       let e = event_today b g in
       let products = products_view b z (end_product (today b) e) (is_member g) (λ p t. after.products p (ltb-true _ _ (and_left _ _ t)) ∙ ap (λ (e : Event). end_product (today b) e (view_product b p)) (ap (λ (g : ℕ). get_or es g quiet) (eqb-true _ _ (and_right _ _ t)) ∙ event_at g l)) (products_of g) (members g l) in
-      sym (group_after_lem b g ∙ sym (rw (after.standings g l, event_at g l, level_of_lem e, products)))
+      let marked = (conditions_of b.edition).has_marks && list_any (list_any is_at_expanded) (moves_today b (products_of g)) in
+      sym (group_after_lem b own g ∙ sym (rw (after.standings g l, event_at g l, level_of_lem e, set_flag (mark_after e marked), products)))
 
   pub end_answer : ended es ≡ answer (view b) (change end)
   unfolding answer view
-  end_answer = ap ended (after.events ∙ sym (events_are b))
+  end_answer = ap ended (after.events ∙ sym (events_are b own))
 
   pub end_view : view z ≡ next (view b) end
   unfolding view_common next_common next_group

@@ -25,8 +25,8 @@ use Rattle.record.specs.Edition.{of2014}
 use Rattle.sheets.specs.declared.sheet.Sheet.{Sheet}
 use Rattle.sheets.specs.Sheets.{no_contract, entries_of, sheet_in}
 use Rattle.sheets.proofs.Rest.{counted as counted_lem}
-use Rattle.book.specs.declared.product.Product.{Product as Held}
-use Rattle.book.specs.Book.{view_held}
+use Rattle.book.specs.declared.Book.{Book}
+use Rattle.book.specs.Book.{limit_in, today_in, last_in, view_product}
 use Rattle.book.proofs.SheetsIn.{sheet_contracts}
 use Rattle.ending.specs.declared.lead.condition.Condition.{Condition}
 use Rattle.ending.specs.declared.lead.condition.Condition.TheVariants.{OneAtInitial, TwoAtInitial, AtLeastInitial, AtExpanded}
@@ -166,20 +166,22 @@ kept_are f (c ∷ s) = ap (λ (l : List Contract). cond (f c) (c ∷ l) l) (kept
 
 -- ---- what a book holds of a product
 -- the contracts of a sheet whose count fits; where none is in there are none
-pub sheet_entries : (s : Sheet) → s.len ≤ max_contracts → sheet_or (sheet_in s) ≡ entries_of s
+pub sheet_entries : (s : Sheet) → s.count ≤ max_contracts → sheet_or (sheet_in s) ≡ entries_of s
 sheet_entries s l = sheet_contracts s ∙ counted_lem s l
 
-module _ (items : Held) (date : TradeDate) (p : ℕ) (today : items.today.len ≤ max_contracts) (last : items.last.len ≤ max_contracts) where
-  enough_is : of2014.are_enough (keep is_trigger (product_moves (is_spot date) (view_held items p))) ≡ are_enough_in date p items
-  unfolding product_moves view_held are_enough_in
+module _ (b : Book) (date : TradeDate) (p : ℕ) (today : (today_in b p).count ≤ max_contracts) (last : (last_in b p).count ≤ max_contracts) where
+  enough_is : of2014.are_enough (keep is_trigger (product_moves (is_spot date) (view_product b p)))
+      ≡ are_enough_in date p (limit_in b p) (entries_of (today_in b p)) (entries_of (last_in b p))
+  unfolding product_moves view_product are_enough_in
   enough_is =
-      let q = view_held items p in
+      let q = view_product b p in
       sym (enough_by (keep is_trigger (product_moves (is_spot date) q)))
       ∙ ap (leb 2) (count_is q (first_of p) (keep (λ c. not (is_spot date c.month)) (sheet_or q.today)))
-      ∙ rw (kept_are (λ c. not (is_spot date c.month)) (sheet_or q.today), sheet_entries items.today today, sheet_entries items.last last)
+      ∙ rw (kept_are (λ c. not (is_spot date c.month)) (sheet_or q.today), sheet_entries (today_in b p) today, sheet_entries (last_in b p) last)
 
   pub suffices : (condition : Condition)
-      → suffice condition (keep (meets condition) (product_moves (is_spot date) (view_held items p))) ≡ suffice_in condition date p items
+      → suffice condition (keep (meets condition) (product_moves (is_spot date) (view_product b p)))
+      ≡ suffice_in date p (limit_in b p) (entries_of (today_in b p)) (entries_of (last_in b p)) condition
   suffices OneAtInitial = refl
   suffices TwoAtInitial = enough_is
   suffices AtLeastInitial = refl

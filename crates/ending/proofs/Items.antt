@@ -11,9 +11,8 @@ use Rattle.record.specs.State.{max_contracts}
 use Rattle.record.specs.End.{is_raised, end_product}
 use Rattle.record.specs.Window.{collected_month, window_by, window_after}
 use Rattle.sheets.specs.Sheets.{entries_of, sheet_in}
-use Rattle.windows.specs.Windows.{shown}
-use Rattle.book.specs.declared.product.Product.{Product as Held}
-use Rattle.book.specs.Book.{view_held}
+use Rattle.book.specs.declared.Book.{Book}
+use Rattle.book.specs.Book.{limit_in, window_of, today_in, last_in, view_product}
 use Rattle.ending.specs.Ends.{limit_after}
 use Rattle.ending.proofs.Enough.{sheet_entries}
 
@@ -26,11 +25,11 @@ expanded_after : (raised : Bool) (p : ℕ) (l : Limit)
 expanded_after true p l = refl
 expanded_after false p l = refl
 
-pub shows_end : (d : Day) (e : Event) (p : ℕ) (items after : Held) → items.today.len ≤ max_contracts
-    → after.limit ≡ limit_after (is_raised e) p items.limit
-    → shown after.window ≡ window_by (shown items.window) (entries_of items.today) (collected_month d p)
-    → sheet_in after.today ≡ None → after.last ≡ items.today
-    → view_held after p ≡ end_product d e (view_held items p)
-unfolding view_held end_product window_after
-shows_end d e p items after fits limit window today last =
-    rw (limit, initial_after (is_raised e) p items.limit, expanded_after (is_raised e) p items.limit, window, sheet_entries items.today fits, today, last)
+pub shows_end : (d : Day) (e : Event) (p : ℕ) (b z : Book) → (today_in b p).count ≤ max_contracts
+    → limit_in z p ≡ limit_after (is_raised e) p (limit_in b p)
+    → window_of z p ≡ window_by (window_of b p) (entries_of (today_in b p)) (collected_month d p)
+    → sheet_in (today_in z p) ≡ None → last_in z p ≡ today_in b p
+    → view_product z p ≡ end_product d e (view_product b p)
+unfolding view_product end_product window_after
+shows_end d e p b z fits limit window today last =
+    rw (limit, initial_after (is_raised e) p (limit_in b p), expanded_after (is_raised e) p (limit_in b p), window, sheet_entries (today_in b p) fits, today, last)

@@ -10,5 +10,6 @@ pub mod Searched
 pub mod Months
 pub mod Outstanding
 pub mod Items
+pub mod Collected
 pub mod AfterEnd
 pub mod SoundBook

@@ -13,7 +13,7 @@ use Rattle.std.specs.List.{filter, filter_map, cons_option, fold, reduce}
 use Rattle.record.specs.declared.Contract.{Contract}
 use Rattle.record.specs.State.{settlement_on}
 use Rattle.sheets.specs.Sheets.{entries_of}
-use Rattle.book.specs.declared.product.Product.{Product as Held}
+use Rattle.sheets.specs.declared.sheet.Sheet.{Sheet}
 use Rattle.ending.specs.Search.{next_on, next_among}
 use Rattle.ending.proofs.Members.{Member}
 
@@ -93,27 +93,27 @@ nearest_on a s =
     nearest_by (Listed s) a (later a (months s)) (reduce min (later a (months s))) (nearest_of a (later a (months s)) (later_above a (months s)))
     (λ n d h. (n, later_has a (months s) n (listed_month s n d) h, h, le_refl n))
 
--- ---- of today's sheets of some products
+-- ---- of some sheets
 module _ (a : ℕ) where
-  abbrev nexts : List Held → List ℕ
-  nexts group = filter_map (λ (q : Held). next_on a (entries_of q.today)) group
+  abbrev nexts : List Sheet → List ℕ
+  nexts group = filter_map (λ (q : Sheet). next_on a (entries_of q)) group
 
-  nexts_above : (group : List Held) (n : ℕ) → Member n (nexts group) → a < n
+  nexts_above : (group : List Sheet) (n : ℕ) → Member n (nexts group) → a < n
   nexts_above [] n d = absurd d
-  nexts_above (q ∷ group) n d = go (next_on a (entries_of q.today)) (nearest_on a (entries_of q.today)) (nexts_above group n) d
+  nexts_above (q ∷ group) n d = go (next_on a (entries_of q)) (nearest_on a (entries_of q)) (nexts_above group n) d
     where
-      go : (r : Option ℕ) → Nearest (Listed (entries_of q.today)) a r → (Member n (nexts group) → a < n)
+      go : (r : Option ℕ) → Nearest (Listed (entries_of q)) a r → (Member n (nexts group) → a < n)
           → Member n (cons_option r (nexts group)) → a < n
       go None near rest k = rest k
       go (Some m) near rest k = ⊎_elim (λ same. let h : a < m = near.0 in omega arith) rest k
 
-  nexts_have : (group : List Held) (q : Held) → Member q group → Has (Listed (entries_of q.today)) a (nexts group)
+  nexts_have : (group : List Sheet) (q : Sheet) → Member q group → Has (Listed (entries_of q)) a (nexts group)
   nexts_have [] q d = absurd d
   nexts_have (w ∷ group) q d =
-      ⊎_elim (λ (same : q ≡ w). subst (λ (x : Held). Has (Listed (entries_of x.today)) a (nexts (w ∷ group))) (sym same) (λ n e h. first (next_on a (entries_of w.today)) (nearest_on a (entries_of w.today)) n e h))
-      (λ k n e h. after (next_on a (entries_of w.today)) n (nexts_have group q k n e h)) d
+      ⊎_elim (λ (same : q ≡ w). subst (λ (x : Sheet). Has (Listed (entries_of x)) a (nexts (w ∷ group))) (sym same) (λ n e h. first (next_on a (entries_of w)) (nearest_on a (entries_of w)) n e h))
+      (λ k n e h. after (next_on a (entries_of w)) n (nexts_have group q k n e h)) d
     where
-      first : (r : Option ℕ) → Nearest (Listed (entries_of w.today)) a r → (n : ℕ) → Listed (entries_of w.today) n → a < n
+      first : (r : Option ℕ) → Nearest (Listed (entries_of w)) a r → (n : ℕ) → Listed (entries_of w) n → a < n
           → (m : ℕ) × Member m (cons_option r (nexts group)) × (a < m) × (m ≤ n)
       first None near n e h = absurd (near n e h)
       first (Some m) near n e h = (m, inl refl, near.0, near.1 n e h)
@@ -123,8 +123,8 @@ module _ (a : ℕ) where
       after None n h = h
       after (Some m) n h = (h.0, inr h.1, h.2, h.3)
 
-  pub nearest_among : (group : List Held) (Among : ℕ → Type 0)
-      → ((n : ℕ) → Among n → (q : Held) × Member q group × Listed (entries_of q.today) n)
+  pub nearest_among : (group : List Sheet) (Among : ℕ → Type 0)
+      → ((n : ℕ) → Among n → (q : Sheet) × Member q group × Listed (entries_of q) n)
       → Nearest Among a (next_among a group)
   unfolding next_among
   nearest_among group Among on =

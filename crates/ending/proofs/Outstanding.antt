@@ -11,7 +11,7 @@ use Rattle.record.specs.State.{Product, Group, group_table}
 use Rattle.record.specs.Record.{end, change, is_outstanding, tests, refusal}
 use Rattle.sheets.specs.Sheets.{sheet_in}
 use Rattle.book.specs.declared.Book.{Book}
-use Rattle.book.specs.Book.{today_in, view_groups, view, view_held}
+use Rattle.book.specs.Book.{today_in, view_groups, view, view_product}
 use Rattle.book.specs.Numbers.{all_products}
 use Rattle.book.specs.Soundness.{are_all_in}
 use Rattle.book.specs.Phase.{phase_refusal}
@@ -39,7 +39,7 @@ unfolding is_outstanding
 group_outstanding g = one-not is_in (λ (q : Product). not (is_some q.today)) (λ q. refl) g.products
 
 outstanding_is : (b : Book) → list_any is_outstanding (view b).groups ≡ not (every (λ p. is_some (sheet_in (today_in b p))) all_products)
-unfolding view view_held
+unfolding view view_product
 outstanding_is b =
     one-not are_in is_outstanding group_outstanding (view_groups b 0 group_table) ∙ ap not (flat b is_in)
 

@@ -22,9 +22,9 @@ use Rattle.record.specs.State.{Product, settlement_on}
 use Rattle.record.specs.Move.{Move, product_moves}
 use Rattle.record.specs.End.{leading}
 use Rattle.sheets.specs.Sheets.{entries_of}
-use Rattle.book.specs.declared.product.Product.{Product as Held}
+use Rattle.sheets.specs.declared.sheet.Sheet.{Sheet}
 use Rattle.book.specs.declared.Book.{Book}
-use Rattle.book.specs.Book.{no_items, items_in, limit_in, today_in, last_in, view_product, view_held}
+use Rattle.book.specs.Book.{no_sheet, limit_in, today_in, last_in, view_product}
 use Rattle.std.specs.List.{range_with_len}
 use Rattle.book.proofs.SheetsIn.{sheet_contracts}
 use Rattle.ending.specs.declared.lead.condition.Condition.{Condition}
@@ -101,19 +101,19 @@ abbrev pub Among : Book → ℕ → ℕ → ℕ → Type 0
 Among b lo hi n = (q : ℕ) × (lo ≤ q) × (q < hi) × Listed (entries_of (today_in b q)) n
 
 -- past the book's products no sheet has a month
-has_product : (b : Book) (q n : ℕ) → Listed (entries_of (today_in b q)) n → q < length b.products
+has_product : (b : Book) (q n : ℕ) → Listed (entries_of (today_in b q)) n → q < length b.today
 unfolding entries_of
 has_product b q n on =
     ⊎_elim (λ h. h)
-    (λ (past : length b.products ≤ q). absurd (false≢true (sym (ap (λ (x : Held). is_some (settlement_on (entries_of x.today) n)) (get_or_past b.products q no_items past)) ∙ on)))
-    (lt_or_ge q (length b.products))
+    (λ (past : length b.today ≤ q). absurd (false≢true (sym (ap (λ (x : Sheet). is_some (settlement_on (entries_of x) n)) (get_or_past b.today q no_sheet past)) ∙ on)))
+    (lt_or_ge q (length b.today))
 
-pub nearest_in : (b : Book) (lo hi a : ℕ) (r : Option ℕ) → r ≡ next_among a (take (hi - lo) (drop lo b.products))
+pub nearest_in : (b : Book) (lo hi a : ℕ) (r : Option ℕ) → r ≡ next_among a (take (hi - lo) (drop lo b.today))
     → Nearest (Among b lo hi) a r
 nearest_in b lo hi a r e =
     rw e
-    (nearest_among a (take (hi - lo) (drop lo b.products)) (Among b lo hi)
-    (λ n d. (items_in b d.0, member_between b.products lo hi d.0 no_items (has_product b d.0 n d.3) d.1 d.2, d.3)))
+    (nearest_among a (take (hi - lo) (drop lo b.today)) (Among b lo hi)
+    (λ n d. (today_in b d.0, member_between b.today lo hi d.0 no_sheet (has_product b d.0 n d.3) d.1 d.2, d.3)))
 
 module _ (b : Book) (date : TradeDate) (condition : Condition) where
   -- the contract of product p in month m meets the condition
@@ -146,13 +146,13 @@ module _ (b : Book) (date : TradeDate) (condition : Condition) where
     all = concat_map (candidates condition) (moves_of b date group)
 
     has : (p m : ℕ) → p < 8 → list_any (is_of m) (candidates_by p) ≡ met m p
-    unfolding is_met_by view_held
+    unfolding is_met_by view_product
     has p m h =
         candidates-month condition m (moves_by p)
-        ∙ ap₂ ◌&&◌ (suffices (items_in b p) date p (sound.today p h) (sound.last p h) condition)
+        ∙ ap₂ ◌&&◌ (suffices b date p (sound.today p h) (sound.last p h) condition)
         (moves_of_month g spot (view_product b p) m (rw (sheet_contracts (today_in b p)) (sound.ascending p h))
         ∙ rw (sheet_entries (today_in b p) (sound.today p h), sheet_entries (last_in b p) (sound.last p h)))
-        ∙ and_comm (suffice_in condition date p (items_in b p)) _
+        ∙ and_comm (suffice_in date p (limit_in b p) (entries_of (today_in b p)) (entries_of (last_in b p)) condition) _
 
     listing : (p m : ℕ) → met m p ≡ true → Listed (entries_of (today_in b p)) m
     unfolding is_met_by meets_on
@@ -160,7 +160,7 @@ module _ (b : Book) (date : TradeDate) (condition : Condition) where
         changed_listed g p (limit_in b p).initial (limit_in b p).expanded m
         (ltb (count_earlier spot m (entries_of (today_in b p))) (first_of p)) (spot m)
         (settlement_on (entries_of (today_in b p)) m) (settlement_on (entries_of (last_in b p)) m)
-        (&&-left _ (suffice_in condition date p (items_in b p)) e)
+        (&&-left _ (suffice_in date p (limit_in b p) (entries_of (today_in b p)) (entries_of (last_in b p)) condition) e)
 
     -- where nothing meets it up to month a, nothing does before the next month
     pub ahead_next : (a : ℕ) (r : Option ℕ) → Nearest (Among b lo hi) a r → Seen met lo hi a → Ahead met lo hi r
@@ -204,7 +204,7 @@ module _ (b : Book) (date : TradeDate) (condition : Condition) where
           (lt_or_ge n m)
 
       low : (v : Move) → v.month ≡ m → v.product ≡ p → (w : Move) → Member w all → Behind (lead_by v) (lead_by w)
-      unfolding moves_of view_held
+      unfolding moves_of view_product
       low v in-month by_product w d =
           one_of (candidates condition) (product_moves spot) (view_product b) w (Behind (lead_by v) (lead_by w)) lo (hi - lo) d
           (λ t i j inside.
@@ -213,7 +213,7 @@ module _ (b : Book) (date : TradeDate) (condition : Condition) where
           rw (in-month, by_product, number) (first w.month t i h (met_by w t h inside)))
 
       pub this_leads : met m p ≡ true → leading all ≡ Some (record { month = m; product = p })
-      unfolding moves_of view_held
+      unfolding moves_of view_product
       this_leads met =
           let lead : Lead = record { month = m; product = p } in
           any_member (leading all ≡ Some lead) (is_of m) (candidates_by p) (has p m (omega arith) ∙ met)

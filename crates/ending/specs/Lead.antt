@@ -49,8 +49,8 @@ trigger_of edition = cond (eqb edition 2014) TwoAtInitial OneAtInitial
 abbrev pub holding_of : ℕ → Condition
 holding_of edition = cond (eqb edition 2014) AtExpanded AtLeastInitial
 
--- what the search asks of a book's sheets, which every sound book has
+-- what the search asks of a book, which every sound book has
 pub record Readable (b : Book) : Type 0 where
-  pub today : (p : ℕ) → p < product_count → (today_in b p).len ≤ max_contracts
-  pub last : (p : ℕ) → p < product_count → (last_in b p).len ≤ max_contracts
+  pub today : (p : ℕ) → p < product_count → (today_in b p).count ≤ max_contracts
+  pub last : (p : ℕ) → p < product_count → (last_in b p).count ≤ max_contracts
   pub ascending : (p : ℕ) → p < product_count → is_ascending (months_of (contracts_of (today_in b p))) ≡ true

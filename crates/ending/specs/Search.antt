@@ -10,9 +10,10 @@ use Rattle.record.specs.Move.{Move}
 use Rattle.grain.specs.declared.spot.TradeDate.{TradeDate}
 use Rattle.grain.specs.Spot.{is_spot}
 use Rattle.sheets.specs.Sheets.{entries_of}
-use Rattle.book.specs.declared.product.Product.{Product as Held}
+use Rattle.sheets.specs.declared.sheet.Sheet.{Sheet}
+use Rattle.grain.specs.declared.amounts.Limit.{Limit}
 use Rattle.book.specs.declared.Book.{Book}
-use Rattle.book.specs.Book.{items_in}
+use Rattle.book.specs.Book.{limit_in, today_in, last_in}
 use Rattle.ending.specs.declared.lead.condition.Condition.{Condition}
 use Rattle.ending.specs.declared.lead.condition.Condition.TheVariants.{OneAtInitial, TwoAtInitial, AtLeastInitial, AtExpanded}
 use Rattle.ending.specs.Lead.{meets}
@@ -21,9 +22,9 @@ use Rattle.ending.specs.Lead.{meets}
 unfoldable pub next_on : ℕ → List Contract → Option ℕ
 next_on a s = reduce min (filter (λ m. ltb a m) (map (λ (c : Contract). c.month) s))
 
--- the nearest on today's sheets of some products
-unfoldable pub next_among : ℕ → List Held → Option ℕ
-next_among a group = reduce min (filter_map (λ (q : Held). next_on a (entries_of q.today)) group)
+-- the nearest on some sheets
+unfoldable pub next_among : ℕ → List Sheet → Option ℕ
+next_among a sheets = reduce min (filter_map (λ (s : Sheet). next_on a (entries_of s)) sheets)
 
 module _ (spot : ℕ → Bool) (m : ℕ) where
   abbrev pub is_earlier : Contract → Bool
@@ -56,29 +57,29 @@ count_from p i c (Some before) = cond (eqb (distance c.settlement before) i) (co
 unfoldable pub count_of : ℕ → ℕ → List Contract → Contract → ℕ
 count_of p i last c = count_from p i c (settlement_on last c.month)
 
--- the first N non-spot contracts of today
-abbrev pub first_in : TradeDate → ℕ → Held → List Contract
-first_in date p items = take (first_of p) (filter (λ (c : Contract). not (is_spot date c.month)) (entries_of items.today))
+-- ---- of a product, from its limit and from the contracts of today's and of the last ended sheet
+module _ (date : TradeDate) (p : ℕ) (limit : Limit) (today last : List Contract) where
+  -- the first N non-spot contracts of today
+  abbrev pub first_in : List Contract
+  first_in = take (first_of p) (filter (λ (c : Contract). not (is_spot date c.month)) today)
 
--- what they count is 2 or more
-unfoldable pub are_enough_in : TradeDate → ℕ → Held → Bool
-are_enough_in date p items = leb 2 (sum_by (count_of p items.limit.initial (entries_of items.last)) (first_in date p items))
+  -- what they count is 2 or more
+  unfoldable pub are_enough_in : Bool
+  are_enough_in = leb 2 (sum_by (count_of p limit.initial last) first_in)
 
--- ---- the same of what a book holds of a product
-abbrev pub suffice_in : Condition → TradeDate → ℕ → Held → Bool
-suffice_in OneAtInitial date p items = true
-suffice_in TwoAtInitial date p items = are_enough_in date p items
-suffice_in AtLeastInitial date p items = true
-suffice_in AtExpanded date p items = true
+  abbrev pub suffice_in : Condition → Bool
+  suffice_in OneAtInitial = true
+  suffice_in TwoAtInitial = are_enough_in
+  suffice_in AtLeastInitial = true
+  suffice_in AtExpanded = true
 
--- its contract of month m meets the condition, and its moves suffice
-unfoldable pub is_met_by : Condition → TradeDate → ℕ → Held → ℕ → Bool
-is_met_by condition date p items m =
-    meets_on (meets condition) (is_spot date) p items.limit.initial items.limit.expanded (entries_of items.today) (entries_of items.last) m
-    && suffice_in condition date p items
+  -- its contract of month m meets the condition, and its moves suffice
+  unfoldable pub is_met_by : Condition → ℕ → Bool
+  is_met_by condition m =
+      meets_on (meets condition) (is_spot date) p limit.initial limit.expanded today last m && suffice_in condition
 
 abbrev pub is_met : Condition → TradeDate → Book → ℕ → ℕ → Bool
-is_met condition date b m p = is_met_by condition date p (items_in b p) m
+is_met condition date b m p = is_met_by date p (limit_in b p) (entries_of (today_in b p)) (entries_of (last_in b p)) condition m
 
 -- the first of the numbers lo to hi, hi not among them, that passes the test f
 abbrev pub FirstMet : (ℕ → Bool) → ℕ → ℕ → Option ℕ → Type 0

@@ -1,14 +1,17 @@
 // The window of a product after a day: the next July contract from November to 15 April, the new crop's from May to 15 October.
-ghost use Rattle.std.specs.Prelude.{◌≡◌, ◌≤◌};
+ghost use Rattle.std.specs.Prelude.{◌≡◌, ◌<◌, ◌≤◌, ℕ, get_or};
 ghost use Rattle.grain.specs.Amounts.{window_length};
 ghost use Rattle.record.specs.Window.{up_to_middle_of, new_crop_month, collected_month, window_by};
+ghost use Rattle.grain.specs.Products.{product_count};
+ghost use Rattle.book.specs.Book.{no_sheet};
 ghost use Rattle.sheets.specs.Sheets.{entries_of};
-ghost use Rattle.windows.specs.Windows.{shown};
+ghost use Rattle.windows.specs.Windows.{size_in, shown, OthersKept};
 
 use book::OpenDay;
+use grain::PRODUCT_COUNT;
 use record::Day;
 use sheets::Sheet;
-use windows::Window;
+use windows::Windows;
 
 // The date is before the month, or in its first 15 days.
 fn is_up_to_middle_of(month: u32, d: Day) -> bool
@@ -50,15 +53,26 @@ pub(crate) fn collected_month(on: &OpenDay, product: u32) -> Option<u32>
 }
 
 // A contract that is not on the sheet empties the window.
-pub(crate) fn collect(window: &mut Window, month: Option<u32>, sheet: &Sheet)
-    requires { window.old.size ≤ window_length }
-    ensures { shown window.new ≡ window_by (shown window.old) (entries_of sheet.now) month }
+fn collect(windows: &mut Windows, p: usize, month: Option<u32>, sheet: &Sheet)
+    requires { (p < product_count) × (size_in windows.old p ≤ window_length) }
+    ensures own { shown windows.new p ≡ window_by (shown windows.old p) (entries_of sheet.now) month }
+    ensures others { OthersKept windows.old p windows.new }
 {
     let Some(month) = month else {
         return;
     };
     match sheet.find(month) {
-        Some(settlement) => window.collect(settlement),
-        None => *window = Window::none(),
+        Some(settlement) => windows.collect(p, settlement),
+        None => windows.empty(p),
+    }
+}
+
+// Of every product, from the day's sheets.
+pub(crate) fn collect_all(windows: &mut Windows, on: &OpenDay, today: &[Sheet; PRODUCT_COUNT])
+    requires { (p : ℕ) → p < product_count → size_in windows.old p ≤ window_length }
+    ensures { (p : ℕ) → p < product_count → shown windows.new p ≡ window_by (shown windows.old p) (entries_of (get_or today.now p no_sheet)) (collected_month on.now.day p) }
+{
+    for p in 0..PRODUCT_COUNT {
+        collect(windows, p, collected_month(on, p as u32), &today[p]);
     }
 }

@@ -4,7 +4,7 @@ ghost use Rattle.record.specs.Edition.{conditions_of};
 ghost use Rattle.record.specs.End.{led_by, event_of};
 ghost use Rattle.record.specs.declared.Event.TheVariants.{Held, Reverted};
 ghost use Rattle.record.specs.State.{initial, expanded};
-ghost use Rattle.book.specs.Book.{standing_in};
+ghost use Rattle.book.specs.Book.{is_set, standing_in};
 ghost use Rattle.book.specs.Numbers.{all_groups};
 ghost use Rattle.ending.specs.Lead.{lead_for, holding_of};
 ghost use Rattle.ending.specs.Moves.{moves_in};
@@ -19,7 +19,7 @@ use std::array;
 impl GroupMoves<'_> {
     #[tactic(auto, using(crate::proofs::Asked::trigger_is), unfolding(record::specs::End::event_of))]
     fn initial_event(&self) -> Event
-        ensures { result ≡ event_of (conditions_of self.now.day.book.now.edition) initial (standing_in self.now.day.book.now self.now.group).marked (moves_in self.now) }
+        ensures { result ≡ event_of (conditions_of self.now.day.book.now.edition) initial (is_set (standing_in self.now.day.book.now self.now.group).marked) (moves_in self.now) }
     {
         self.leading(trigger_of(self.day.book.edition))
             .map_or(Event::Quiet, Event::Triggered)
@@ -50,8 +50,8 @@ impl GroupMoves<'_> {
         ensures { result ≡ event_in self.now.day.book.now self.now.day.date self.now.group }
     {
         let standing = self.day.book.standings[self.group];
-        if standing.expanded {
-            return self.expanded_event(standing.marked);
+        if standing.is_expanded() {
+            return self.expanded_event(standing.is_marked());
         }
         self.initial_event()
     }

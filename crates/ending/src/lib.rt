@@ -4,12 +4,13 @@
 ghost use Rattle.std.specs.Prelude.{◌≡◌, true, Some};
 ghost use Rattle.record.specs.Record.{answer, next as next_state, change, end as call, ended as answered};
 ghost use Rattle.record.specs.Sound.{is_sound};
-ghost use Rattle.book.specs.Book.{view};
+ghost use Rattle.book.specs.Book.{opened_in, view};
 ghost use Rattle.ending.specs.Ends.{Ends};
 
 use book::{Book, OpenDay};
-use grain::Refusal;
+use grain::{PRODUCT_COUNT, Refusal};
 use record::{Event, GROUP_COUNT};
+use sheets::Sheet;
 
 mod collection;
 mod editions;
@@ -17,12 +18,12 @@ mod events;
 mod lead;
 mod limits;
 mod moves;
-mod products;
 mod refusals;
 mod standings;
 
+use collection::collect_all;
+use limits::limits_of_end;
 use moves::DayMoves;
-use products::products_of_end;
 use refusals::ended_day;
 
 // For each group, its event; an event carries its leading contract, where it has one.
@@ -35,7 +36,7 @@ pub fn end(b: &mut Book) -> Result<[Event; GROUP_COUNT], Refusal>
 
 // Events are by the levels, limits and marks before the end; today's sheets become the last ended ones.
 fn accepted(b: &mut Book, on: OpenDay) -> [Event; GROUP_COUNT]
-    requires { (is_sound (view b.old) ≡ true) × (b.old.opened ≡ Some on.day) }
+    requires { (is_sound (view b.old) ≡ true) × (opened_in b.old ≡ Some on.day) }
     ensures { (answered result ≡ answer (view b.old) (change call)) × (view b.new ≡ next_state (view b.old) call) }
 {
     let moves = DayMoves {
@@ -45,7 +46,10 @@ fn accepted(b: &mut Book, on: OpenDay) -> [Event; GROUP_COUNT]
     let events = moves.events();
     let standings = moves.standings(&events);
     b.standings = standings;
-    b.products = products_of_end(&b.products, &events, &on);
-    b.is_open = false;
+    b.limits = limits_of_end(&b.limits, &events);
+    collect_all(&mut b.windows, &on, &b.today);
+    b.last = b.today;
+    b.today = [Sheet::none(); PRODUCT_COUNT];
+    b.is_open = 0;
     events
 }

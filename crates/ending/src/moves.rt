@@ -3,8 +3,9 @@ ghost use Rattle.std.specs.Prelude.{◌≡◌, ◌<◌};
 ghost use Rattle.record.specs.State.{group_count};
 ghost use Rattle.ending.specs.Lead.{Readable};
 
-use book::{Book, Product};
-use grain::TradeDate;
+use book::Book;
+use grain::{Limit, TradeDate};
+use sheets::Sheet;
 
 // The moves of all groups: the book, and the trade date of its open day.
 #[derive(Clone, Copy, Debug, PartialEq, Eq)]
@@ -34,7 +35,9 @@ impl<'a> DayMoves<'a> {
 // Of a product, from what a book holds of it.
 #[derive(Clone, Copy, Debug, PartialEq, Eq)]
 pub(crate) struct ProductMoves<'a> {
-    pub(crate) items: &'a Product,
-    pub(crate) date: TradeDate,
     pub(crate) product: u32,
+    pub(crate) limit: Limit,
+    pub(crate) today: &'a Sheet,
+    pub(crate) last: &'a Sheet,
+    pub(crate) date: TradeDate,
 }

@@ -19,14 +19,8 @@ fn standing_after(event: Event, reached: bool) -> Standing
     ensures { result ≡ standing_after event reached }
 {
     match event {
-        Event::Triggered(_) => Standing {
-            expanded: true,
-            marked: false,
-        },
-        Event::Held(_) => Standing {
-            expanded: true,
-            marked: reached,
-        },
+        Event::Triggered(_) => Standing::of(true, false),
+        Event::Held(_) => Standing::of(true, reached),
         Event::Quiet | Event::Reverted | Event::Raised(_) => Standing::default(),
     }
 }

@@ -12,12 +12,12 @@ use Rattle.record.specs.State.{Product, group_of, group_at, product_in}
 use Rattle.record.specs.Sheet.{is_misshapen}
 use Rattle.sheets.specs.Sheets.{sheet_in}
 use Rattle.book.specs.declared.Book.{Book}
-use Rattle.book.specs.Book.{today_in, view, view_held}
+use Rattle.book.specs.Book.{today_in, view, view_product}
 use Rattle.book.proofs.Views.{product_is}
 use Rattle.filing.specs.Files.{early_tests}
 
 today_is : (b : Book) (p : ℕ) → p < 8 → is_some (product_in (group_at (view b) (group_of p)) p).today ≡ is_some (sheet_in (today_in b p))
-unfolding view_held
+unfolding view_product
 today_is b p l = ap (λ (q : Product). is_some q.today) (product_is b p l)
 
 -- the refusal, by what the three tests look at

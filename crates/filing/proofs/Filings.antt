@@ -23,8 +23,7 @@ use Rattle.sheets.specs.Sheets.{entries_of, sheet_in, months_of, settlements_of,
 use Rattle.sheets.proofs.Rest.{counted}
 use Rattle.sheets.proofs.Fills.{contracts-length}
 use Rattle.book.specs.declared.Book.{Book}
-use Rattle.book.specs.declared.product.Product.{Product as Held}
-use Rattle.book.specs.Book.{no_items, limit_in, window_in, last_in, view_product, view_group, view_common, view, view_held}
+use Rattle.book.specs.Book.{no_sheet, is_book, edition_in, opened_in, view_product, view_group, view_common, view}
 use Rattle.book.specs.Phase.{phase_refusal}
 use Rattle.book.proofs.Phases.{refused_early, decided_late}
 use Rattle.book.proofs.Views.{group_view, next-view}
@@ -60,14 +59,14 @@ settlements_are (m ∷ ms) (s ∷ ss) e = ap (λ (l : List ℕ). s ∷ l) (settl
 
 -- the sheet that two arrays of a good shape make
 pub record Made (ms ss : List ℕ) (s : Sheet) : Type 0 where
-  pub len : s.len ≡ length ms
+  pub count : s.count ≡ length ms
   pub entries : entries_of s ≡ contracts ms ss
 
 pub made : (ms ss : List ℕ) (s : Sheet) → SheetOf ms ss s → Shape ms ss → Made ms ss s
 made ms ss s of e =
     let as_long : length (contracts ms ss) ≡ length ms = omega (arith, contracts-length ms ss, e.same) in
     let all = take_all 16 (contracts ms ss) (omega (arith, e.fits)) in
-    record { len = of.len ∙ ap length all ∙ as_long; entries = of.entries ∙ all }
+    record { count = of.count ∙ ap length all ∙ as_long; entries = of.entries ∙ all }
 
 -- ---- the refusals in two parts
 first_joined : (l m : List Test) → first (l ++ m) ≡ option_or (first l) (first m)
@@ -133,35 +132,24 @@ refusal_late b p ms ss s past e is =
     ∙ sym (ap (λ (cs : List Contract). first (contract_tests (view b) p cs)) is.entries)
 
 -- ---- the book with the sheet in
-abbrev pub filed_items : Book → ℕ → Sheet → Held
-filed_items b p s =
-    record { limit = limit_in b p; window = window_in b p; today = s; last = last_in b p }
-
 abbrev pub filed_book : Book → ℕ → Sheet → Book
-filed_book b p s =
-    record {
-      edition = b.edition;
-      standings = b.standings;
-      products = set b.products p (filed_items b p s);
-      opened = b.opened;
-      is_open = b.is_open;
-    }
+filed_book b p s = record b { today = set b.today p s }
 
-pub sheet_in_lem : (s : Sheet) (cs : List Contract) → (s.len ≡ 0 → ⊥) → s.len ≤ 16 → entries_of s ≡ cs → sheet_in s ≡ Some cs
+pub sheet_in_lem : (s : Sheet) (cs : List Contract) → (s.count ≡ 0 → ⊥) → s.count ≤ 16 → entries_of s ≡ cs → sheet_in s ≡ Some cs
 unfolding sheet_in
-sheet_in_lem s cs n l e = rw (ne_eqb s.len 0 n, counted s l, e)
+sheet_in_lem s cs n l e = rw (ne_eqb s.count 0 n, counted s l, e)
 
-module _ (b : Book) (p : ℕ) (s : Sheet) (ms ss : List ℕ) (l : p < length b.products) (e : sheet_in s ≡ Some (contracts ms ss)) where
+module _ (b : Book) (p : ℕ) (s : Sheet) (ms ss : List ℕ) (l : p < length b.today) (e : sheet_in s ≡ Some (contracts ms ss)) where
   product_after : (q : ℕ) → view_product (filed_book b p s) q ≡ file_product p (contracts ms ss) (view_product b q)
-  unfolding view_held file_product
+  unfolding view_product file_product
   product_after q = go (eqb q p) refl
     where
       go : (same : Bool) → eqb q p ≡ same → view_product (filed_book b p s) q ≡ file_product p (contracts ms ss) (view_product b q)
-      go true h = rw (h, eqb-true q p h, get_or-set_same b.products p (filed_items b p s) no_items l, e)
-      go false h = rw (h, get_or-set_other b.products p q (filed_items b p s) no_items (eqb-false q p h))
+      go true h = rw (h, eqb-true q p h, get_or-set_same b.today p s no_sheet l, e)
+      go false h = rw (h, get_or-set_other b.today p q s no_sheet (eqb-false q p h))
 
   pub filed_view : view (filed_book b p s) ≡ next (view b) (sheet p ms ss)
-  unfolding view_common next_common next_group file_group view_group
+  unfolding view_common edition_in is_book opened_in next_common next_group file_group view_group
   filed_view =
       next-view b (filed_book b p s) (sheet p ms ss) refl
       (λ g h. rw (group_view b (filed_book b p s) (file_product p (contracts ms ss)) g h (λ q k. product_after q)))

@@ -19,6 +19,6 @@ pub fn sheet(b: &mut Book, product: u32, months: &[u32], settlements: &[u32]) ->
     let p = product as usize;
     let sheet = Sheet::of(months, settlements);
     contract_refusal(b, date, p, &sheet)?;
-    b.products[p].today = sheet;
+    b.today[p] = sheet;
     Ok(())
 }

@@ -27,7 +27,7 @@ pub(crate) fn early_refusal(
     if !grain::is_product(product) {
         return Err(Refusal::NoSuchProduct);
     }
-    if !b.products[product as usize].today.is_none() {
+    if !b.today[product as usize].is_none() {
         return Err(Refusal::AlreadyIn);
     }
     if sheets::is_misshapen(months, settlements) {
@@ -61,7 +61,7 @@ pub(crate) fn contract_refusal(
     if !s.is_settled(product) {
         return Err(Refusal::BadPrice);
     }
-    let last = &b.products[p].last;
+    let last = &b.last[p];
     if s.lacks_contract(date, last) {
         return Err(Refusal::ContractAbsent);
     }

@@ -1,3 +1,4 @@
+mod Made
 pub mod Leaves
 pub mod Numbers
 pub mod Imaged

@@ -2,7 +2,6 @@
 use Prim.Native.Nat.{ℕ}
 use mathlib.Core.Path.{◌≡◌, refl, ◌∙◌}
 use mathlib.Core.Bool.{Bool, true, false}
-use mathlib.Core.List.{List}
 use native.Mathlib.Omega.{arith}
 use lib.Dec.{eqb}
 use Rattle.std.specs.Prelude.{not, ◌&&◌, cond, Ok, Err}
@@ -15,7 +14,7 @@ use Rattle.grain.specs.declared.refusals.Refusal.TheVariants.{NoSuchProduct, Bad
 use Rattle.grain.specs.declared.check.Verdict.TheVariants.{Free, Within, Below, Above}
 use Rattle.tally.specs.Tally.{tally_full}
 use Rattle.tallying.proofs.BookAnswers.{book-counted}
-use Rattle.image.specs.Image.{book_in}
+use Rattle.gateway.specs.declared.image.Image.{Image}
 use Rattle.gateway.specs.Calls.{image_answer, image_check}
 use Rattle.gateway.proofs.Numbers.{number_of}
 
@@ -34,6 +33,6 @@ bare_not_full product size settlement amount spot price =
     go false false false (Below s) = refl
     go false false false (Above s) = refl
 
-pub image_not_full : (ws : List ℕ) (p size month price : ℕ) → eqb (image_check ws p size month price) tally_full ≡ false
-image_not_full ws p size month price =
-    number_of tally_full (omega arith) (omega arith) (image_answer ws p size month price) ∙ book-counted (book_in ws) p size month price
+pub image_not_full : (i : Image) (p size month price : ℕ) → eqb (image_check i p size month price) tally_full ≡ false
+image_not_full i p size month price =
+    number_of tally_full (omega arith) (omega arith) (image_answer i p size month price) ∙ book-counted i.book p size month price

@@ -25,7 +25,7 @@ images_lawful =
     record {
       answers = λ t o r u p. p.answer;
       tally = λ t o r u p. p.tally;
-      not_full = λ o. image_not_full o.words o.product o.size o.month o.price;
+      not_full = λ o. image_not_full o.image o.product o.size o.month o.price;
       says_full = refl;
     }
 

@@ -8,7 +8,6 @@ use Rattle.record.specs.Record.{opening, sheet, end}
 use Rattle.opening.specs.Opens.{day_on}
 use Rattle.gateway.specs.declared.spans.Spanned.{Spanned}
 use Rattle.gateway.specs.Calls.{RespondsImage, ConvertsImage, image_check, image_span, FoundsImage}
-use Rattle.tally.specs.Words.{tally_in}
 use Rattle.gateway.specs.Tallied.{TalliesBare, TalliesImage}
 use Rattle.gateway.proofs.calls.botskhela_found.Reads as founds
 use Rattle.gateway.proofs.calls.botskhela_open.Reads as opens
@@ -68,14 +67,14 @@ pub check_span_asks : (κs : Lfts 1) (a : _) → checks-span.Pre κs a
 check_span_asks κs a = tt
 
 pub tallied_check_says : (κs : Lfts 1) (a : _) (r : ℕ) (s : _) → tallied-check.Post κs a r s
-    → TalliesBare (tally_in a.0.now) a.1.0 a.1.1.0 a.1.1.1.0 a.1.1.1.1.0 a.1.1.1.1.1.0 a.1.1.1.1.1.1.0 r (tally_in s.0.now)
+    → TalliesBare a.0.now a.1.0 a.1.1.0 a.1.1.1.0 a.1.1.1.1.0 a.1.1.1.1.1.0 a.1.1.1.1.1.1.0 r s.0.now
 tallied_check_says κs a r s q = q
 
 pub tallied_check_asks : (κs : Lfts 1) (a : _) → tallied-check.Pre κs a
 tallied_check_asks κs a = tt
 
 pub tallied_book_check_says : (κs : Lfts 2) (a : _) (r : ℕ) (s : _) → tallied-book-check.Post κs a r s
-    → TalliesImage (tally_in a.0.now) a.1.0.now a.1.1.0 a.1.1.1.0 a.1.1.1.1.0 a.1.1.1.1.1.0 r (tally_in s.0.now)
+    → TalliesImage a.0.now a.1.0.now a.1.1.0 a.1.1.1.0 a.1.1.1.1.0 a.1.1.1.1.1.0 r s.0.now
 tallied_book_check_says κs a r s q = q
 
 pub tallied_book_check_asks : (κs : Lfts 2) (a : _) → tallied-book-check.Pre κs a

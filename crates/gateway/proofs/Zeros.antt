@@ -14,7 +14,6 @@ use Rattle.record.specs.Record.{Change, opening, sheet, end, convert, change, ac
 use Rattle.record.specs.Theorems.{is_refusal}
 use Rattle.record.proofs.Proved.{theorems}
 use Rattle.book.specs.Book.{view}
-use Rattle.image.specs.Image.{book_in}
 use Rattle.gateway.specs.Calls.{answer_number}
 use Rattle.gateway.specs.Images.{ZeroAccepts}
 
@@ -51,6 +50,6 @@ zero_founding s = go (not (is_edition s.edition)) (not (are_fit s.limits))
 pub zero_accepts : ZeroAccepts
 zero_accepts =
     record {
-      changes = λ ws now c n r. ap (λ n. eqb n 0) r.number ∙ zero_answer (view (book_in ws)) c;
-      foundings = λ ws now s n f. ap (λ n. eqb n 0) f.number ∙ zero_founding s;
+      changes = λ i now c n r. ap (λ n. eqb n 0) r.number ∙ zero_answer (view i.book) c;
+      foundings = λ i now s n f. ap (λ n. eqb n 0) f.number ∙ zero_founding s;
     }

@@ -1,11 +1,12 @@
--- A check through a tally, the bare one and that on a book: what it promises, whatever the tally, the words and the numbers.
-use Rattle.std.specs.Prelude.{ℕ, ◌≡◌, cond, List, eqb}
+-- A check through a tally, the bare one and that on a book: what it promises, whatever the tally, the struct and the numbers.
+use Rattle.std.specs.Prelude.{ℕ, ◌≡◌, cond, eqb}
 use Rattle.grain.specs.Check.{free, within, below, above}
 use Rattle.grain.specs.Bare.{bare_check}
 use Rattle.tally.specs.declared.Tally.{Tally}
 use Rattle.tally.specs.declared.kinds.Kind.{Kind}
 use Rattle.tally.specs.declared.kinds.Kind.TheVariants.{Free, Within, Below, Above, Refused}
 use Rattle.tally.specs.Tally.{tally_refusal, takes, counted}
+use Rattle.gateway.specs.declared.image.Image.{Image}
 use Rattle.gateway.specs.Calls.{image_check}
 
 -- what an answer's number is counted as
@@ -21,6 +22,6 @@ pub record Tallies (n : ℕ) (t : Tally) (r : ℕ) (after : Tally) : Type 0 wher
 abbrev pub TalliesBare : Tally → ℕ → ℕ → ℕ → ℕ → ℕ → ℕ → ℕ → Tally → Type 0
 TalliesBare t product size settlement amount spot price r after = Tallies (bare_check product size settlement amount spot price) t r after
 
--- of a check on the book in words, which are lent to read only; the book's own 1 is counted as refused
-abbrev pub TalliesImage : Tally → List ℕ → ℕ → ℕ → ℕ → ℕ → ℕ → Tally → Type 0
-TalliesImage t ws product size month price r after = Tallies (image_check ws product size month price) t r after
+-- of a check on a book, which is lent to read only; the book's own 1 is counted as refused
+abbrev pub TalliesImage : Tally → Image → ℕ → ℕ → ℕ → ℕ → ℕ → Tally → Type 0
+TalliesImage t i product size month price r after = Tallies (image_check i product size month price) t r after

@@ -1,9 +1,10 @@
 -- Bare checks through one tally, one after another, and checks on books: what is shown of every list of them is the tally's own theorem
 -- (ThroughOneTally).
-use Rattle.std.specs.Prelude.{ℕ, List, eqb}
+use Rattle.std.specs.Prelude.{ℕ, eqb}
 use Rattle.grain.specs.Bare.{bare_check}
 use Rattle.tally.specs.Tally.{tally_full}
 use Rattle.tally.specs.Through.{TalliedCall, ThroughOneTally}
+use Rattle.gateway.specs.declared.image.Image.{Image}
 use Rattle.gateway.specs.Calls.{image_check}
 use Rattle.gateway.specs.Tallied.{kind_of_number, TalliesBare, TalliesImage}
 
@@ -33,9 +34,9 @@ bare_checks =
 abbrev pub BareThroughOneTally : Type 0
 BareThroughOneTally = ThroughOneTally bare_checks
 
--- one check; each may be on other words
+-- one check; each may be on another book
 pub record BookOrder : Type 0 where
-  pub words : List ℕ
+  pub image : Image
   pub product : ℕ
   pub size : ℕ
   pub month : ℕ
@@ -47,11 +48,11 @@ image_checks =
     record {
       Ask = BookOrder;
       Answer = ℕ;
-      answer_to = λ o. image_check o.words o.product o.size o.month o.price;
+      answer_to = λ o. image_check o.image o.product o.size o.month o.price;
       kind_of = kind_of_number;
       refused = λ n. n;
       is_tally_full = λ n. eqb n tally_full;
-      Promise = λ t o r u. TalliesImage t o.words o.product o.size o.month o.price r u;
+      Promise = λ t o r u. TalliesImage t o.image o.product o.size o.month o.price r u;
     }
 
 abbrev pub ImagesThroughOneTally : Type 0

@@ -6,6 +6,7 @@ ghost use Rattle.std.specs.Prelude.{◌≡◌};
 ghost use Rattle.grain.specs.Bare.{bare_check};
 
 mod calls;
+mod image;
 mod laws;
 mod spans;
 mod tallied;
@@ -14,6 +15,7 @@ pub use calls::{
     botskhela_check, botskhela_convert, botskhela_end, botskhela_found, botskhela_open,
     botskhela_sheet,
 };
+pub use image::{EventWords, Image};
 pub use laws::{
     bare_through_one_tally, images_through_one_tally, no_image, whole_images, zero_accepts,
 };

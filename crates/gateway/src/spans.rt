@@ -4,8 +4,8 @@ ghost use Rattle.grain.specs.Bare.{bare_answer, bare_span};
 ghost use Rattle.checking.specs.Checks.{checked_as};
 ghost use Rattle.gateway.specs.Calls.{with_span, image_span};
 
+use crate::image::Image;
 use grain::{Refusal, Span, Verdict, checked_number};
-use image::{WORDS, book_in};
 
 // For C: an answer's number and the ends of its span, which are 0 where it is free or refused.
 #[repr(C)]
@@ -67,13 +67,13 @@ impl From<Result<Verdict, Refusal>> for Spanned {
 
 #[unsafe(no_mangle)]
 pub extern "C" fn botskhela_check_span(
-    words: &[u32; WORDS],
+    image: &Image,
     product: u32,
     size: u32,
     month: u32,
     price: u32,
 ) -> Spanned
-    ensures { result ≡ image_span words.now product size month price }
+    ensures { result ≡ image_span image.now product size month price }
 {
-    checking::check(&book_in(words), product, size, month, price).into()
+    checking::check(&image.book, product, size, month, price).into()
 }

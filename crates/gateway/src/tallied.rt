@@ -1,25 +1,22 @@
-// The bare check and the check on a book through a tally, which is lent as six words.
+// The bare check and the check on a book through a tally.
 ghost use Rattle.grain.specs.Bare.{checked_number};
-ghost use Rattle.tally.specs.Words.{tally_in};
 ghost use Rattle.gateway.specs.Tallied.{Tallies, TalliesBare, TalliesImage};
 
+use crate::image::Image;
 use grain::{Refusal, Verdict, checked_number};
-use image::{WORDS, book_in};
-use tally::{TALLY_WORDS, Tally};
+use tally::Tally;
 
-// Passes a check's answer through the tally in the words, and gives its number.
-fn through(words: &mut [u32; TALLY_WORDS], checked: Result<Verdict, Refusal>) -> u32
-    ensures { Tallies (checked_number checked) (tally_in words.old) result (tally_in words.new) }
+// Passes a check's answer through the tally, and gives its number.
+fn through(tally: &mut Tally, checked: Result<Verdict, Refusal>) -> u32
+    ensures { Tallies (checked_number checked) tally.old result tally.new }
 {
-    let mut t = Tally::from(*words);
-    let answer = t.through(checked);
-    *words = t.into();
+    let answer = tally.through(checked);
     checked_number(answer)
 }
 
 #[unsafe(no_mangle)]
 pub extern "C" fn botskhela_tallied_check(
-    tally: &mut [u32; TALLY_WORDS],
+    tally: &mut Tally,
     product: u32,
     size: u32,
     settlement: u32,
@@ -27,7 +24,7 @@ pub extern "C" fn botskhela_tallied_check(
     spot: u32,
     price: u32,
 ) -> u32
-    ensures { TalliesBare (tally_in tally.old) product size settlement amount spot price result (tally_in tally.new) }
+    ensures { TalliesBare tally.old product size settlement amount spot price result tally.new }
 {
     through(
         tally,
@@ -37,17 +34,17 @@ pub extern "C" fn botskhela_tallied_check(
 
 #[unsafe(no_mangle)]
 pub extern "C" fn botskhela_tallied_book_check(
-    tally: &mut [u32; TALLY_WORDS],
-    words: &[u32; WORDS],
+    tally: &mut Tally,
+    image: &Image,
     product: u32,
     size: u32,
     month: u32,
     price: u32,
 ) -> u32
-    ensures { TalliesImage (tally_in tally.old) words.now product size month price result (tally_in tally.new) }
+    ensures { TalliesImage tally.old image.now product size month price result tally.new }
 {
     through(
         tally,
-        checking::check(&book_in(words), product, size, month, price),
+        checking::check(&image.book, product, size, month, price),
     )
 }

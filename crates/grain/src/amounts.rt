@@ -15,6 +15,7 @@ pub const MAX_FOUNDING: u32 = 1000000;
 pub const WINDOW_LENGTH: usize = 45;
 
 // A product's limits: I and E of the rule.
+#[repr(C)]
 #[derive(Clone, Copy, Debug, Default, PartialEq, Eq)]
 pub struct Limit {
     pub initial: u32,

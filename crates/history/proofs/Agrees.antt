@@ -1,5 +1,5 @@
 -- A book that holds what the Record holds after a list of calls, however it came by it: what is known of it, and of two of them.
-use Rattle.std.proofs.Common.{◌≡◌, ap, sym, ◌∙◌, ℕ, ◌<◌, List, ◌++◌, Some, None}
+use Rattle.std.proofs.Common.{◌≡◌, ap, sym, ◌∙◌, true, None, ℕ, ◌<◌, List, ◌++◌, Some}
 use Rattle.grain.specs.Check.{span_in, is_within}
 use Rattle.grain.specs.declared.check.Span.{Span}
 use Rattle.grain.specs.declared.check.Verdict.{Verdict}
@@ -9,17 +9,19 @@ use Rattle.record.specs.Founding.{Start, founding_refusal}
 use Rattle.record.specs.Record.{check, Call, checked, accepted, ask}
 use Rattle.record.specs.History.{SameFor}
 use Rattle.record.specs.Theorems.{after, history_of, Together, BetweenLimits, Resent}
+use Rattle.record.specs.Sound.{is_sound}
 use Rattle.record.proofs.Proved.{theorems}
 use Rattle.record.proofs.GroupTable.{group_small}
 use Rattle.book.specs.declared.Book.{Book}
-use Rattle.book.specs.Book.{view_group, view_common, view, view_held}
+use Rattle.book.specs.Book.{view_product, view_group, view_common, view}
+use Rattle.book.proofs.SoundFacts.{edition_is}
 use Rattle.book.proofs.Views.{group_is, product_is}
 use Rattle.checking.specs.Checks.{book_answer}
 use Rattle.history.specs.Whole.{SameProduct, SameContents}
 
 -- ---- what a book holds, part by part
 product_same : (z : Book) (p : ℕ) → p < 8 → SameProduct z (view z) p
-unfolding view_held view_group
+unfolding view_product view_group
 product_same z p l =
     let q = sym (product_is z p l) in
     let g = sym (group_is z (group_of p) (group_small p l)) in
@@ -33,11 +35,11 @@ product_same z p l =
       mark = ap (λ (g : Group). g.mark) g;
     }
 
-same_contents : (z : Book) (r : Record) → view z ≡ r → SameContents z r
+same_contents : (z : Book) (r : Record) → is_sound r ≡ true → view z ≡ r → SameContents z r
 unfolding view view_common
-same_contents z r e =
+same_contents z r sound e =
     record {
-      edition = ap (λ (r : Record). r.common.edition) e;
+      edition = sym (edition_is z (rw e sound)) ∙ ap (λ (r : Record). r.common.edition) e;
       is_open = ap (λ (r : Record). r.common.is_open) e;
       opened = ap (λ (r : Record). r.common.opened) e;
       products = λ p l. rw (← e) (product_same z p l);
@@ -48,8 +50,8 @@ module _ (s : Start) (cs : List Call) (z : Book) (is : view z ≡ after s cs) wh
   answered : (p size month price : ℕ) → ask (after s cs) (check p size month price) ≡ book_answer z p size month price
   answered p size month price = ap (λ (r : Record). ask r (check p size month price)) (sym is)
 
-  pub compared : SameContents z (after s cs)
-  compared = same_contents z (after s cs) is
+  pub compared : founding_refusal s ≡ None → SameContents z (after s cs)
+  compared is_founded = same_contents z (after s cs) (theorems.stays_sound s is_founded cs) is
 
   pub together : Together (view z)
   together = rw is (theorems.together s cs)

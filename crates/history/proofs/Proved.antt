@@ -43,7 +43,7 @@ module _ (s : Start) (cs : List Call) (rs : List Answer) (z : Book) (run : Run s
   never_unsound_lem = ap (every (λ a. not (is_refusal unsound a))) answers_are ∙ theorems.never_unsound s is_founded cs
 
   edition_is : z.edition ≡ (after s cs).common.edition
-  edition_is = (agrees.compared s cs z contents_are).edition
+  edition_is = (agrees.compared s cs z contents_are is_founded).edition
 
   edition_after_lem : z.edition ≡ cond (list_any is_conversion (kept cs rs)) 2023 s.edition
   edition_after_lem =
@@ -98,7 +98,7 @@ whole_history =
     record {
       answered = answers_are;
       contents = contents_are;
-      compared = λ s cs rs z run. agrees.compared s cs z (contents_are s cs rs z run);
+      compared = λ s cs rs z run. agrees.compared s cs z (contents_are s cs rs z run) (is_founded s cs rs z run);
       never_unsound = never_unsound_lem;
       edition_after = edition_after_lem;
       never_raised = never_raised_lem;

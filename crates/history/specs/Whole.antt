@@ -16,7 +16,7 @@ use Rattle.record.specs.History.{kept, SameFor}
 use Rattle.record.specs.Theorems.{after, is_refusal, has_raised, is_conversion, Together, BetweenLimits, Resent}
 use Rattle.sheets.specs.Sheets.{sheet_in}
 use Rattle.book.specs.declared.Book.{Book}
-use Rattle.book.specs.Book.{limit_in, window_of, standing_in, today_in, last_in, level_of, view}
+use Rattle.book.specs.Book.{is_set, opened_in, limit_in, window_of, standing_in, today_in, last_in, level_of, view}
 use Rattle.book.specs.Founding.{Founds}
 use Rattle.checking.specs.Checks.{Checks}
 use Rattle.history.specs.Step.{Step}
@@ -35,14 +35,14 @@ pub record SameProduct (z : Book) (r : Record) (p : ℕ) : Type 0 where
   pub window : window_of z p ≡ (product_in (group_at r (group_of p)) p).window
   pub today : sheet_in (today_in z p) ≡ (product_in (group_at r (group_of p)) p).today
   pub last : sheet_in (last_in z p) ≡ (product_in (group_at r (group_of p)) p).last
-  pub level : level_of (standing_in z (group_of p)).expanded ≡ (group_at r (group_of p)).level
-  pub mark : (standing_in z (group_of p)).marked ≡ (group_at r (group_of p)).mark
+  pub level : level_of (is_set (standing_in z (group_of p)).expanded) ≡ (group_at r (group_of p)).level
+  pub mark : is_set (standing_in z (group_of p)).marked ≡ (group_at r (group_of p)).mark
 
 -- all that is compared: the edition, whether a day is open, the last opened date with its left, and each product's contents
 pub record SameContents (z : Book) (r : Record) : Type 0 where
   pub edition : z.edition ≡ r.common.edition
-  pub is_open : z.is_open ≡ r.common.is_open
-  pub opened : z.opened ≡ r.common.opened
+  pub is_open : is_set z.is_open ≡ r.common.is_open
+  pub opened : opened_in z ≡ r.common.opened
   pub products : (p : ℕ) → p < product_count → SameProduct z r p
 
 pub record WholeHistory : Type 0 where

@@ -5,4 +5,3 @@ pub mod FullWindows
 pub mod Starts
 pub mod Renewals
 pub mod SeasonStarts
-pub mod Filled

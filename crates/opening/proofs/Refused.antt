@@ -7,7 +7,7 @@ use Rattle.record.specs.Refusals.{Test, when, first, not_later, left_not_smaller
 use Rattle.record.specs.Opening.{is_true_day, is_not_later, is_left_not_smaller, opening_tests}
 use Rattle.record.specs.Record.{opening, change, tests, refusal}
 use Rattle.book.specs.declared.Book.{Book}
-use Rattle.book.specs.Book.{view_common, view}
+use Rattle.book.specs.Book.{is_set, opened_in, view_common, view}
 use Rattle.book.specs.Phase.{phase_refusal}
 use Rattle.book.proofs.Phases.{refused_early, decided_late}
 
@@ -22,8 +22,8 @@ date_tests last d =
 module _ (b : Book) (d : Day) where
   pub early_opening : (n : ℕ) → Some n ≡ phase_refusal false (view b) → Some n ≡ refusal (view b) (change (opening d))
   unfolding refusal tests opening_tests view view_common
-  early_opening n e = sym (refused_early (view b) b.is_open n (date_tests b.opened d) (sym e))
+  early_opening n e = sym (refused_early (view b) (is_set b.is_open) n (date_tests (opened_in b) d) (sym e))
 
-  pub late_opening : None ≡ phase_refusal false (view b) → refusal (view b) (change (opening d)) ≡ first (date_tests b.opened d)
+  pub late_opening : None ≡ phase_refusal false (view b) → refusal (view b) (change (opening d)) ≡ first (date_tests (opened_in b) d)
   unfolding refusal tests opening_tests view view_common
-  late_opening e = decided_late (view b) b.is_open (date_tests b.opened d) (sym e)
+  late_opening e = decided_late (view b) (is_set b.is_open) (date_tests (opened_in b) d) (sym e)

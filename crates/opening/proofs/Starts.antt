@@ -14,7 +14,7 @@ use Rattle.grain.proofs.Below.{each}
 use Rattle.record.specs.State.{group_table, group_count, group_of}
 use Rattle.record.specs.History.{products_of}
 use Rattle.record.proofs.GroupTable.{group_small, small_products}
-use Rattle.book.specs.declared.Standing.{Standing}
+use Rattle.book.specs.declared.standing.Standing.{Standing}
 use Rattle.book.specs.Book.{no_standing}
 use Rattle.book.specs.Numbers.{all_products}
 use Rattle.book.proofs.Numbers.{number_at, value_at, any_same}

@@ -1,4 +1,4 @@
--- What an opening promises, whatever the book and the date; and what it does to a product's items and a group's level and mark.
+-- What an opening promises, whatever the book and the date; and what it does to a product's limits and a group's level and mark.
 use Rattle.std.specs.Prelude.{ℕ, Bool, false, ◌&&◌, cond, List, eqb, length, get_or, replicate, Option, Some, None, unwrap_or, Result, Ok, Err}
 use Rattle.std.specs.List.{list_any}
 use Rattle.grain.specs.Products.{product_count}
@@ -7,9 +7,7 @@ use Rattle.grain.specs.declared.amounts.Limit.{Limit}
 use Rattle.grain.specs.declared.refusals.Refusal.{Refusal}
 use Rattle.record.specs.declared.Day.{Day}
 use Rattle.record.specs.Record.{opening, opened, Answer}
-use Rattle.windows.specs.Windows.{empty_window, shown}
-use Rattle.book.specs.declared.product.Product.{Product as Held}
-use Rattle.book.specs.declared.Standing.{Standing}
+use Rattle.book.specs.declared.standing.Standing.{Standing}
 use Rattle.book.specs.declared.Book.{Book}
 use Rattle.book.specs.Book.{no_standing}
 use Rattle.book.specs.Calls.{Responds, answer_as}
@@ -42,19 +40,6 @@ new_limit renews window p =
 -- and otherwise those that it has
 abbrev pub limit_on : Bool → List ℕ → ℕ → Limit → Limit
 limit_on renews window p limit = unwrap_or (new_limit renews window p) limit
-
--- the window is emptied where the season is another; sheets stay
-abbrev pub items_with : Limit → Bool → Held → Held
-items_with limit empties h =
-    record {
-      limit = limit;
-      window = cond empties empty_window h.window;
-      today = h.today;
-      last = h.last;
-    }
-
-abbrev pub items_on : Bool → Bool → ℕ → Held → Held
-items_on renews empties p h = items_with (limit_on renews (shown h.window) p h.limit) empties h
 
 -- the answers for all products say yes for one of these
 abbrev pub is_one_renewed : List Bool → List ℕ → Bool

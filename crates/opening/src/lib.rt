@@ -4,7 +4,7 @@
 ghost use Rattle.std.specs.Prelude.{◌≡◌, true};
 ghost use Rattle.record.specs.Record.{answer, next as next_state, change, opening as call, opened as answered};
 ghost use Rattle.record.specs.Sound.{is_sound};
-ghost use Rattle.book.specs.Book.{view};
+ghost use Rattle.book.specs.Book.{opened_in, view};
 ghost use Rattle.opening.specs.Opens.{Opens};
 
 use book::Book;
@@ -20,7 +20,7 @@ mod standings;
 
 use dates::Dates;
 pub use laws::season_start;
-use renewal::open_products;
+use renewal::{are_renewed, empty_on, limits_on, new_limits};
 use seasons::SeasonChange;
 use standings::standings_on;
 
@@ -35,13 +35,16 @@ pub fn opening(b: &mut Book, day: Day) -> Result<[bool; PRODUCT_COUNT], Refusal>
 // What an accepted opening does: new limits, with them the initial level, and the emptying of windows; sheets stay.
 fn accept(b: &mut Book, dates: &Dates) -> [bool; PRODUCT_COUNT]
     requires sound { is_sound (view b.old) ≡ true }
-    requires last { dates.now.last ≡ b.old.opened }
+    requires last { dates.now.last ≡ opened_in b.old }
     ensures { (answered result ≡ answer (view b.old) (change (call dates.now.day))) × (view b.new ≡ next_state (view b.old) (call dates.now.day)) }
 {
     let change = SeasonChange::of(dates);
-    let renewed = open_products(change, &mut b.products);
+    let new = new_limits(change, &b.windows);
+    let renewed = are_renewed(&new);
+    b.limits = limits_on(&new, &b.limits);
     b.standings = standings_on(&renewed, b.standings);
-    b.opened = Some(dates.day);
-    b.is_open = true;
+    empty_on(change, &mut b.windows);
+    b.day = dates.day;
+    b.is_open = 1;
     renewed
 }

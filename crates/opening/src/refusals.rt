@@ -2,7 +2,7 @@
 ghost use Rattle.std.specs.Prelude.{◌≡◌};
 ghost use Rattle.std.specs.Result.{ForOk};
 ghost use Rattle.record.specs.Record.{opening, change, refusal};
-ghost use Rattle.book.specs.Book.{view};
+ghost use Rattle.book.specs.Book.{opened_in, view};
 ghost use Rattle.book.specs.Calls.{refusal_in};
 
 use crate::dates::Dates;
@@ -15,14 +15,14 @@ impl Dates {
     #[tactic(auto, using(crate::proofs::Refused::early_opening, crate::proofs::Refused::late_opening))]
     pub(crate) fn of(b: &Book, day: Day) -> Result<Dates, Refusal>
         ensures refusal { refusal_in result ≡ refusal (view b.now) (change (opening day)) }
-        ensures dates { ForOk result (λ dates. (dates.last ≡ b.now.opened) × (dates.day ≡ day)) }
+        ensures dates { ForOk result (λ dates. (dates.last ≡ opened_in b.now) × (dates.day ≡ day)) }
     {
         b.expect(false)?;
         if !book::is_true_day(day) {
             return Err(Refusal::NoSuchDate);
         }
         let dates = Dates {
-            last: b.opened,
+            last: b.opened(),
             day,
         };
         if dates.is_not_later() {

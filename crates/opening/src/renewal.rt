@@ -1,62 +1,57 @@
-// What an opening makes of each product: new limits, and an emptied window.
-ghost use Rattle.std.specs.Prelude.{◌≡◌, true, cond, map, ℕ, ◌<◌, get_or, unwrap_or};
+// The new limits of the products at an opening.
+ghost use Rattle.std.specs.Prelude.{◌≡◌, true, false, cond, ℕ, ◌<◌, get_or, unwrap_or, None, is_some};
 ghost use Rattle.grain.specs.Lists.{every};
 ghost use Rattle.grain.specs.Prices.{is_settlement};
 ghost use Rattle.grain.specs.Products.{product_count};
-ghost use Rattle.windows.specs.Windows.{shown, empty_window};
-ghost use Rattle.book.specs.Book.{no_items};
-ghost use Rattle.book.specs.Numbers.{all_products};
-ghost use Rattle.opening.specs.Opens.{is_renewed_by, new_limit, items_with, items_on};
+ghost use Rattle.windows.specs.Windows.{shown, empty_windows};
+ghost use Rattle.book.specs.Book.{no_limit};
+ghost use Rattle.opening.specs.Opens.{new_limit};
 
 use crate::seasons::SeasonChange;
-use book::Product;
 use grain::{Limit, PRODUCT_COUNT};
-use windows::Window;
+use std::array;
+use windows::Windows;
 
 // The product's season limits, where it gets new ones: a window that is not full gives none.
-fn new_limit(change: SeasonChange, p: u32, window: &Window) -> Option<Limit>
-    requires { (p < product_count) × (every (is_settlement p) (shown window.now) ≡ true) }
-    ensures { result ≡ new_limit change.renews (shown window.now) p }
+fn new_limit(change: SeasonChange, p: u32, windows: &Windows) -> Option<Limit>
+    requires { (p < product_count) × (every (is_settlement p) (shown windows.now p) ≡ true) }
+    ensures { result ≡ new_limit change.renews (shown windows.now p) p }
 {
     if !change.renews {
         return None;
     }
-    window.season_limits(p).ok()
+    windows.season_limits(p).ok()
 }
 
-fn window_on(change: SeasonChange, window: &Window) -> Window
-    ensures { result ≡ cond change.empties empty_window window.now }
+pub(crate) fn new_limits(change: SeasonChange, windows: &Windows) -> [Option<Limit>; PRODUCT_COUNT]
+    requires { (p : ℕ) → p < product_count → every (is_settlement p) (shown windows.now p) ≡ true }
+    ensures { (p : ℕ) → p < product_count → get_or result p None ≡ new_limit change.renews (shown windows.now p) p }
+{
+    array::from_fn(|p| new_limit(change, p as u32, windows))
+}
+
+// For each product, whether it gets new limits.
+pub(crate) fn are_renewed(new: &[Option<Limit>; PRODUCT_COUNT]) -> [bool; PRODUCT_COUNT]
+    ensures { (p : ℕ) → p < product_count → get_or result p false ≡ is_some (get_or new.now p None) }
+{
+    array::from_fn(|p| new[p].is_some())
+}
+
+// A product that gets no new limits keeps its own.
+pub(crate) fn limits_on(
+    new: &[Option<Limit>; PRODUCT_COUNT],
+    limits: &[Limit; PRODUCT_COUNT],
+) -> [Limit; PRODUCT_COUNT]
+    ensures { (p : ℕ) → p < product_count → get_or result p no_limit ≡ unwrap_or (get_or new.now p None) (get_or limits.now p no_limit) }
+{
+    array::from_fn(|p| new[p].unwrap_or(limits[p]))
+}
+
+// In another season every window is emptied.
+pub(crate) fn empty_on(change: SeasonChange, windows: &mut Windows)
+    ensures { windows.new ≡ cond change.empties empty_windows windows.old }
 {
     if change.empties {
-        return Window::none();
+        *windows = Windows::none();
     }
-    *window
-}
-
-fn items_on(change: SeasonChange, new_limit: Option<Limit>, items: &Product) -> Product
-    ensures { result ≡ items_with (unwrap_or new_limit items.now.limit) change.empties items.now }
-{
-    Product {
-        limit: new_limit.unwrap_or(items.limit),
-        window: window_on(change, &items.window),
-        ..*items
-    }
-}
-
-// For each product, whether it got its season limits.
-pub(crate) fn open_products(
-    change: SeasonChange,
-    products: &mut [Product; PRODUCT_COUNT],
-) -> [bool; PRODUCT_COUNT]
-    requires { (p : ℕ) → p < product_count → every (is_settlement p) (shown (get_or products.old p no_items).window) ≡ true }
-    ensures answers { result ≡ map (λ p. is_renewed_by change.renews (shown (get_or products.old p no_items).window)) all_products }
-    ensures items { (p : ℕ) → p < product_count → get_or products.new p no_items ≡ items_on change.renews change.empties p (get_or products.old p no_items) }
-{
-    let mut renewed = [false; PRODUCT_COUNT];
-    for (p, items) in products.iter_mut().enumerate() {
-        let new = new_limit(change, p as u32, &items.window);
-        renewed[p] = new.is_some();
-        *items = items_on(change, new, items);
-    }
-    renewed
 }

@@ -6,6 +6,7 @@ mod laws;
 pub use laws::theorems;
 
 // A date with its left: the business days of its month after it.
+#[repr(C)]
 #[derive(Clone, Copy, Debug, Default, PartialEq, Eq)]
 pub struct Day {
     pub year: u32,
@@ -17,6 +18,7 @@ pub struct Day {
 // How many contracts a sheet can have.
 pub const MAX_CONTRACTS: usize = 16;
 
+#[repr(C)]
 #[derive(Clone, Copy, Debug, Default, PartialEq, Eq)]
 pub struct Contract {
     pub month: u32,

@@ -15,10 +15,10 @@ IsNoContract c = (c.month ≡ 0) × (c.settlement ≡ 0)
 record_contract : (m s : ℕ) → m ≡ 0 → s ≡ 0 → ◌≡◌ {A = Contract} (record { month = m; settlement = s }) no_contract
 record_contract m s p q = rw (p, q)
 
-record_sheet : (l : List Contract) (n : ℕ) → l ≡ replicate max_contracts no_contract → n ≡ 0 → ◌≡◌ {A = Sheet} (record { contracts = l; len = n }) empty_sheet
-record_sheet l n p q = rw (p, q)
+record_sheet : (n : ℕ) (l : List Contract) → n ≡ 0 → l ≡ replicate max_contracts no_contract → ◌≡◌ {A = Sheet} (record { count = n; contracts = l }) empty_sheet
+record_sheet n l p q = rw (p, q)
 
-pub default_sheet : (s : Sheet) → AllOfLen IsNoContract s.contracts max_contracts → s.len ≡ 0 → s ≡ empty_sheet
-default_sheet s zeros none =
-    record_sheet s.contracts s.len
-    (all_are no_contract (λ c e. record_contract c.month c.settlement e.0 e.1) max_contracts s.contracts zeros) none
+pub default_sheet : (s : Sheet) → s.count ≡ 0 → AllOfLen IsNoContract s.contracts max_contracts → s ≡ empty_sheet
+default_sheet s none zeros =
+    record_sheet s.count s.contracts none
+    (all_are no_contract (λ c e. record_contract c.month c.settlement e.0 e.1) max_contracts s.contracts zeros)

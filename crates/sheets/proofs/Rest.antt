@@ -12,6 +12,6 @@ pub mapped : (X Y : Type 0) (f : X → Y) (l : List X) (n : ℕ) → length (map
 mapped X Y f l n e = sym (length-map l f) ∙ e
 
 -- where the count fits, the places that it reaches are the sheet
-pub counted : (s : Sheet) → s.len ≤ 16 → contracts_of s ≡ entries_of s
+pub counted : (s : Sheet) → s.count ≤ 16 → contracts_of s ≡ entries_of s
 unfolding contracts_of
-counted s l = rw (le-leb s.len 16 l)
+counted s l = rw (le-leb s.count 16 l)

@@ -11,13 +11,13 @@ use Rattle.sheets.specs.declared.sheet.Sheet.{Sheet}
 use Rattle.sheets.specs.Sheets.{entries_of, sheet_in, are_sound_contracts}
 use Rattle.sheets.proofs.Rest.{counted}
 
-pub entries_count : (s : Sheet) → length s.contracts ≡ 16 → s.len ≤ 16 → length (entries_of s) ≡ s.len
+pub entries_count : (s : Sheet) → length s.contracts ≡ 16 → s.count ≤ 16 → length (entries_of s) ≡ s.count
 unfolding entries_of
-entries_count s long l = length-take-le s.len s.contracts (omega arith)
+entries_count s long l = length-take-le s.count s.contracts (omega arith)
 
-pub sound_by_tests : (p : ℕ) (s : Sheet) → length s.contracts ≡ 16 → (s.len ≡ 0 → ⊥) → s.len ≤ 16
+pub sound_by_tests : (p : ℕ) (s : Sheet) → length s.contracts ≡ 16 → (s.count ≡ 0 → ⊥) → s.count ≤ 16
     → is_sound_sheet p (sheet_in s) ≡ are_sound_contracts p (entries_of s)
 unfolding sheet_in is_sound_sheet ◌and◌
 sound_by_tests p s long n l =
     rw
-    (ne_eqb s.len 0 n, counted s l, entries_count s long l, le-leb 1 s.len (omega arith), le-leb s.len 16 l)
+    (ne_eqb s.count 0 n, counted s l, entries_count s long l, le-leb 1 s.count (omega arith), le-leb s.count 16 l)

@@ -12,19 +12,19 @@ abbrev pub no_contract : Contract
 no_contract = record { month = 0; settlement = 0 }
 
 abbrev pub empty_sheet : Sheet
-empty_sheet = record { contracts = replicate max_contracts no_contract; len = 0 }
+empty_sheet = record { count = 0; contracts = replicate max_contracts no_contract }
 
 -- the contracts in the places that the count reaches, which every sheet has
 unfoldable pub entries_of : Sheet → List Contract
-entries_of s = take s.len s.contracts
+entries_of s = take s.count s.contracts
 
 -- a count beyond the 16 places is shown as a sheet that is too long, which no sound book has
 unfoldable pub contracts_of : Sheet → List Contract
-contracts_of s = cond (leb s.len max_contracts) (entries_of s) (replicate (max_contracts + 1) no_contract)
+contracts_of s = cond (leb s.count max_contracts) (entries_of s) (replicate (max_contracts + 1) no_contract)
 
 -- a product's sheet, or none where its count is 0
 unfoldable pub sheet_in : Sheet → Option (List Contract)
-sheet_in s = cond (eqb s.len 0) None (Some (contracts_of s))
+sheet_in s = cond (eqb s.count 0) None (Some (contracts_of s))
 
 abbrev pub months_of : List Contract → List ℕ
 months_of cs = map (λ (c : Contract). c.month) cs
@@ -34,7 +34,7 @@ settlements_of cs = map (λ (c : Contract). c.settlement) cs
 
 -- The first 16 of the months and settlements put together.
 pub record SheetOf (months settlements : List ℕ) (s : Sheet) : Type 0 where
-  pub len : s.len ≡ length (take max_contracts (contracts months settlements))
+  pub count : s.count ≡ length (take max_contracts (contracts months settlements))
   pub entries : entries_of s ≡ take max_contracts (contracts months settlements)
 
 -- months as in 7 without the date test, settlements on the standard tick

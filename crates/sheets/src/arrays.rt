@@ -38,8 +38,8 @@ impl Sheet {
             };
         }
         Sheet {
+            count: n as u32,
             contracts: all,
-            len: n,
         }
     }
 }

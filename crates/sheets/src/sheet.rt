@@ -4,12 +4,13 @@ ghost use Rattle.sheets.specs.Sheets.{empty_sheet, entries_of, sheet_in};
 
 use record::{Contract, MAX_CONTRACTS};
 
-// No heap: the places are there whatever the count. An image from C can hold any count, which soundness then judges.
+// As C has it. No heap: the places are there whatever the count. A book from C can hold any count, which soundness then judges.
+#[repr(C)]
 #[derive(Clone, Copy, Debug, Default, PartialEq, Eq)]
 pub struct Sheet {
-    pub contracts: [Contract; MAX_CONTRACTS],
     // How many of the places are used; 0 where there is no sheet. Places that are not used may hold anything.
-    pub len: usize,
+    pub count: u32,
+    pub contracts: [Contract; MAX_CONTRACTS],
 }
 
 impl Sheet {
@@ -23,13 +24,13 @@ impl Sheet {
     pub fn is_none(&self) -> bool
         ensures { result ≡ not (is_some (sheet_in self.now)) }
     {
-        self.len == 0
+        self.count == 0
     }
 
     // The contracts in the places that the count reaches.
     pub fn entries(&self) -> &[Contract]
         ensures { result.now ≡ entries_of self.now }
     {
-        &self.contracts[..self.len.min(MAX_CONTRACTS)]
+        &self.contracts[..(self.count as usize).min(MAX_CONTRACTS)]
     }
 }

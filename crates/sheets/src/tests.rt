@@ -80,7 +80,7 @@ impl Sheet {
         if self.is_none() {
             return true;
         }
-        if MAX_CONTRACTS < self.len {
+        if MAX_CONTRACTS < self.count as usize {
             return false;
         }
         self.are_sound(product)

@@ -4,11 +4,10 @@
 mod counts;
 mod kinds;
 mod through;
-mod words;
 
 pub use kinds::Kind;
-pub use words::TALLY_WORDS;
 
+#[repr(C)]
 #[derive(Clone, Copy, Debug, Default, PartialEq, Eq)]
 pub struct Tally {
     // The number of checks; the sum of the other five.

@@ -1,56 +1,109 @@
--- One settlement more in a window with room, and in a full one, whose oldest goes first.
-use Rattle.std.proofs.Common.{◌≡◌, refl, sym, ◌∙◌, ap, ℕ, ◌+◌, ◌-◌, ◌<◌, ◌≤◌, true, List, [], ◌∷◌, ◌++◌, length, take, drop, set, arith, add-one, length-append, length-drop, Some}
+-- One settlement more in a product's places; and the places of the others.
+use Rattle.std.proofs.Common.{◌≡◌, refl, sym, ◌∙◌, ap, ℕ, ◌+◌, ◌-◌, ◌*◌, ◌<◌, ◌≤◌, Bool, true, false, List, [], ◌∷◌, ◌++◌, length, take, drop, set, get_or, arith, add-one, length-append, length-drop, Some, leb, ltb}
 use mathlib.Core.Bool.{false≢true}
-use lib.Seq.{take_all, take-suc-set, drop-append-le, length-take-le, take-append_seam}
-use borrow.Author.Tests.{le-leb, lt-leb}
+use native.Mathlib.Nat.{add-sub_cancel_left}
+use lib.Seq.{take_all, take-suc-set, drop-append-le, length-take-le, take-append_seam, take_at, drop_at, get_or-set_same, get_or-set_other}
+use borrow.Rule.Slice.PartMut.{mid_of, put_mid, drop_put}
+use borrow.Author.Tests.{le-leb, lt-ltb, lt-leb, le-ltb, leb-true, leb-false}
+use Rattle.std.proofs.lemmas.List.{drop-take, take-append-le}
 use Rattle.record.specs.Window.{collect}
-use Rattle.windows.specs.declared.Window.{Window}
-use Rattle.windows.specs.Windows.{shown, can_collect, Collects}
-use Rattle.windows.proofs.Shown.{shown_fits}
+use Rattle.windows.specs.declared.Windows.{Windows}
+use Rattle.windows.specs.Windows.{size_in, places_of, kept_of, shown, can_collect, OthersKept, Collects, Empties}
+use Rattle.windows.proofs.Shown.{shown_fits, no_size, none_kept}
 
-collect_room : (l : List ℕ) (v : ℕ) → length l < 45 → collect l (Some v) ≡ l ++ (v ∷ [])
-collect_room l v h =
-    let none : length l + 1 - 45 ≡ 0 = omega arith in
-    rw (length-append l (v ∷ []), none)
-
+-- ---- in the places of one product
 collect_full : (l : List ℕ) (v : ℕ) → length l ≡ 45 → collect l (Some v) ≡ drop 1 l ++ (v ∷ [])
 collect_full l v h = rw (length-append l (v ∷ []), h) (drop-append-le 1 l (v ∷ []) (omega arith))
 
-module _ (w : Window) (v : ℕ) where
-  -- a window that can collect is not left as it is
-  changes : (r : Window) → w.size ≤ 45 → shown r ≡ collect (shown w) (Some v) → Collects w v r
-  changes r l e =
-      let can : can_collect w ≡ true = le-leb w.size 45 l in
-      record { changed = rw can e; unchanged = λ no. absurd (false≢true (sym no ∙ can)) }
+-- at n, a settlement behind the first n
+behind : (xs : List ℕ) (n v : ℕ) → n < length xs → take (n + 1) (set xs n v) ≡ take n xs ++ (v ∷ [])
+behind xs n v h = rw add-one (take-suc-set xs n v h)
 
-  pub damaged : 45 < w.size → Collects w v w
-  damaged l = record { changed = rw (lt-leb w.size 45 l); unchanged = λ no. refl }
+pub full : (xs turned : List ℕ) (n v : ℕ) → length xs ≡ 45 → n ≡ 45 → turned ≡ drop 1 xs ++ take 1 xs
+    → take n (set turned 44 v) ≡ collect (take n xs) (Some v)
+full xs turned n v long l e =
+    let rest : length (drop 1 xs) ≡ 44 = simp length-drop (omega arith) in
+    let many : length turned ≡ 45 = rw e (simp length-append (rw rest (ap (λ n. 44 + n) (length-take-le 1 xs (omega arith))))) in
+    let front : take 44 turned ≡ drop 1 xs = rw (e, sym rest) (take-append_seam (drop 1 xs) (take 1 xs)) in
+    rw (l, take_all 45 xs (omega arith), collect_full xs v long) (behind turned 44 v (omega arith) ∙ ap (λ (ys : List ℕ). ys ++ (v ∷ [])) front)
 
-  -- at n, a settlement behind the first n
-  behind : (xs : List ℕ) (n : ℕ) → n < length xs → take (n + 1) (set xs n v) ≡ take n xs ++ (v ∷ [])
-  behind xs n h = rw add-one (take-suc-set xs n v h)
+-- ---- in the places of all
+module _ (ws : Windows) (p v n : ℕ) (places : List ℕ) (many : length ws.sizes ≡ 8) (long : length ws.settlements ≡ 360) (l : p < 8) (whole : length places ≡ 45) where
+  abbrev put : List ℕ
+  put = put_mid (45 * p) (45 * p + 45 - 45 * p) ws.settlements places
 
-  pub with_room : length w.settlements ≡ 45 → w.size < 45
-      → Collects w v (record { settlements = set w.settlements w.size v; size = w.size + 1 })
-  with_room long l =
-      let kept = take w.size w.settlements in
-      let few : length kept < 45 = rw (length-take-le w.size w.settlements (omega arith)) l in
-      changes _ (omega arith)
-      (shown_fits _ (omega arith)
-      ∙ behind w.settlements w.size (omega arith)
-      ∙ sym (collect_room kept v few)
-      ∙ ap (λ (xs : List ℕ). collect xs (Some v)) (sym (shown_fits w (omega arith))))
+  abbrev after : Windows
+  after = record { sizes = set ws.sizes p n; settlements = put }
 
-  pub full : length w.settlements ≡ 45 → w.size ≡ 45 → (turned : List ℕ) → turned ≡ drop 1 w.settlements ++ take 1 w.settlements
-      → Collects w v (record { settlements = set turned 44 v; size = w.size })
-  full long l turned e =
-      let xs = w.settlements in
-      let rest : length (drop 1 xs) ≡ 44 = simp length-drop (omega arith) in
-      let many : length turned ≡ 45 = rw e (simp length-append (rw rest (ap (λ n. 44 + n) (length-take-le 1 xs (omega arith))))) in
-      let front : take 44 turned ≡ drop 1 xs = rw (e, sym rest) (take-append_seam (drop 1 xs) (take 1 xs)) in
-      changes _ (omega arith)
-      (shown_fits _ (omega arith)
-      ∙ rw l (behind turned 44 (omega arith))
-      ∙ ap (λ (ys : List ℕ). ys ++ (v ∷ [])) front
-      ∙ sym (collect_full xs v long)
-      ∙ ap (λ (ys : List ℕ). collect ys (Some v)) (sym (shown_fits w (omega arith) ∙ take_all w.size xs (omega arith))))
+  own_places : places_of after p ≡ places
+  own_places =
+      let front : length (take (45 * p) ws.settlements) ≡ 45 * p = length-take-le (45 * p) ws.settlements (omega arith) in
+      ap (take 45) (drop_at (take (45 * p) ws.settlements) _ (45 * p) front) ∙ take_at places _ 45 whole
+
+  before : (q : ℕ) → q < p → places_of after q ≡ places_of ws q
+  before q h =
+      let left : 45 * q + 45 ≤ length (take (45 * p) ws.settlements) = rw (length-take-le (45 * p) ws.settlements (omega arith)) (omega arith) in
+      sym (drop-take (45 * q) 45 put)
+      ∙ ap (drop (45 * q)) (take-append-le (45 * q + 45) (take (45 * p) ws.settlements) _ left ∙ lib.Seq.take-take (45 * q + 45) (45 * p) ws.settlements (omega arith))
+      ∙ drop-take (45 * q) 45 ws.settlements
+
+  behind_all : (q : ℕ) → p < q → places_of after q ≡ places_of ws q
+  behind_all q h =
+      let gone : drop (45 * p + 45) put ≡ drop (45 * p + 45) ws.settlements = drop_put (45 * p) (45 * p + 45) ws.settlements places (omega arith) (omega arith) (omega arith) in
+      let rest : 45 * p + 45 + (45 * q - (45 * p + 45)) ≡ 45 * q = omega arith in
+      let from : (xs : List ℕ) → drop (45 * q) xs ≡ drop (45 * q - (45 * p + 45)) (drop (45 * p + 45) xs) = λ xs. sym (lib.Seq.drop-drop (45 * q - (45 * p + 45)) (45 * p + 45) xs ∙ ap (λ m. drop m xs) rest) in
+      ap (take 45) (from put ∙ ap (drop (45 * q - (45 * p + 45))) gone ∙ sym (from ws.settlements))
+
+  other_places : (q : ℕ) → (q ≡ p → ⊥) → places_of after q ≡ places_of ws q
+  other_places q ne = go (ltb q p) refl
+    where
+      go : (b : Bool) → ltb q p ≡ b → places_of after q ≡ places_of ws q
+      go true e = before q (borrow.Author.Tests.ltb-true _ _ e)
+      go false e = let h = borrow.Author.Tests.ltb-false _ _ e in behind_all q (omega (arith, ne))
+
+  pub others : OthersKept ws p after
+  unfolding kept_of
+  others q ne =
+      let size : size_in after q ≡ size_in ws q = get_or-set_other ws.sizes p q n 0 ne in
+      (size, rw (size, other_places q ne))
+
+  -- lent are the places from 45 p up to 45 p + 45
+  pub collects : size_in ws p ≤ 45 → n ≤ 45 → take n places ≡ collect (take (size_in ws p) (mid_of (45 * p) (45 * p + 45 - 45 * p) ws.settlements)) (Some v) → Collects ws p v after
+  unfolding kept_of
+  collects fits room e =
+      let can : can_collect ws p ≡ true = rw (lt-ltb p 8 l, le-leb (size_in ws p) 45 fits) in
+      let size : size_in after p ≡ n = get_or-set_same ws.sizes p n 0 (omega arith) in
+      record {
+        own = λ yes.
+            shown_fits after p (rw size room)
+            ∙ rw (size, own_places) (rw (add-sub_cancel_left (45 * p) 45) at e)
+            ∙ ap (λ (xs : List ℕ). collect xs (Some v)) (sym (shown_fits ws p fits));
+        others = others;
+        unchanged = λ no. absurd (false≢true (sym no ∙ can));
+      }
+
+-- ---- where nothing can be collected
+pub no_product_lem : (ws : Windows) (p v : ℕ) → 8 ≤ p → Collects ws p v ws
+no_product_lem ws p v l =
+    let no : can_collect ws p ≡ false = rw (le-ltb p 8 l) in
+    record { own = λ yes. absurd (false≢true (sym no ∙ yes)); others = λ q ne. (refl, refl); unchanged = λ no. refl }
+
+pub damaged : (ws : Windows) (p v : ℕ) → leb (size_in ws p) 45 ≡ false → Collects ws p v ws
+damaged ws p v e =
+    let no : can_collect ws p ≡ false = go (ltb p 8) in
+    record { own = λ yes. absurd (false≢true (sym no ∙ yes)); others = λ q ne. (refl, refl); unchanged = λ no. refl }
+  where
+    go : (b : Bool) → (mathlib.Core.Bool.◌&&◌ b (leb (size_in ws p) 45)) ≡ false
+    go true = e
+    go false = refl
+
+-- ---- an emptied window
+pub empties : (ws : Windows) (p : ℕ) → length ws.sizes ≡ 8 → p < 8 → Empties ws p (record { sizes = set ws.sizes p 0; settlements = ws.settlements })
+unfolding shown kept_of
+empties ws p many l =
+    let size : get_or (set ws.sizes p 0) p 0 ≡ 0 = get_or-set_same ws.sizes p 0 0 (omega arith) in
+    record { own = rw size; others = λ q ne. let same = get_or-set_other ws.sizes p q 0 0 ne in (same, rw same) }
+
+pub none_empties : (ws : Windows) (p : ℕ) → length ws.sizes ≡ 8 → 8 ≤ p → Empties ws p ws
+unfolding shown
+none_empties ws p many l = record { own = rw (no_size ws p many l) (none_kept ws p many l); others = λ q ne. (refl, refl) }

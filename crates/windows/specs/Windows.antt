@@ -1,33 +1,46 @@
--- What a window means: the collected settlements within its size.
-use Rattle.std.specs.Prelude.{ℕ, ◌+◌, ◌≡◌, Bool, false, cond, List, [], leb, take, replicate, Some}
+-- What the windows mean: of each product, the collected settlements within its size.
+use Rattle.std.specs.Prelude.{ℕ, ◌+◌, ◌*◌, ◌≡◌, Bool, true, false, ◌&&◌, cond, List, [], leb, ltb, take, drop, get_or, replicate, Some}
 use Rattle.grain.specs.Amounts.{window_length}
+use Rattle.grain.specs.Products.{product_count}
 use Rattle.record.specs.Window.{collect}
-use Rattle.windows.specs.declared.Window.{Window}
+use Rattle.windows.specs.declared.Windows.{Windows}
 
--- the settlements in the places that the size reaches, which every window has
-unfoldable pub kept_of : Window → List ℕ
-kept_of w = take w.size w.settlements
+abbrev pub empty_windows : Windows
+empty_windows = record { sizes = replicate product_count 0; settlements = replicate (product_count * window_length) 0 }
+
+-- 0 where there is no such product
+abbrev pub size_in : Windows → ℕ → ℕ
+size_in ws p = get_or ws.sizes p 0
+
+-- a product's own places
+abbrev pub places_of : Windows → ℕ → List ℕ
+places_of ws p = take window_length (drop (window_length * p) ws.settlements)
+
+-- the settlements in the places that the size reaches, whatever the size
+unfoldable pub kept_of : Windows → ℕ → List ℕ
+kept_of ws p = take (size_in ws p) (places_of ws p)
 
 -- a size beyond the 45 places is shown as a window that is too long, which no sound book has
-unfoldable pub shown : Window → List ℕ
-shown w = cond (leb w.size window_length) (kept_of w) (replicate (window_length + 1) 0)
+abbrev pub shown_by : ℕ → List ℕ → List ℕ
+shown_by size kept = cond (leb size window_length) kept (replicate (window_length + 1) 0)
 
--- what a place that no array has would hold
-abbrev pub no_window : Window
-no_window = record { settlements = []; size = 0 }
+unfoldable pub shown : Windows → ℕ → List ℕ
+shown ws p = shown_by (size_in ws p) (kept_of ws p)
 
-abbrev pub empty_window : Window
-empty_window = record { settlements = replicate window_length 0; size = 0 }
+-- of a product, with a size that is not damaged
+abbrev pub can_collect : Windows → ℕ → Bool
+can_collect ws p = ltb p product_count && leb (size_in ws p) window_length
 
--- of a size that is not damaged
-abbrev pub can_collect : Window → Bool
-can_collect w = leb w.size window_length
+-- the windows of the other products are the same
+abbrev pub OthersKept : Windows → ℕ → Windows → Type 0
+OthersKept ws p r = (q : ℕ) → (q ≡ p → ⊥) → (size_in r q ≡ size_in ws q) × (kept_of r q ≡ kept_of ws q)
 
--- one settlement more, where the window can collect
-abbrev pub collected : Window → ℕ → List ℕ
-collected w v = cond (can_collect w) (collect (shown w) (Some v)) (shown w)
+-- what collecting promises: where no window can collect, all stay the very windows
+pub record Collects (ws : Windows) (p v : ℕ) (r : Windows) : Type 0 where
+  pub own : can_collect ws p ≡ true → shown r p ≡ collect (shown ws p) (Some v)
+  pub others : OthersKept ws p r
+  pub unchanged : can_collect ws p ≡ false → r ≡ ws
 
--- what collecting promises: a damaged window stays the very window
-pub record Collects (w : Window) (v : ℕ) (r : Window) : Type 0 where
-  pub changed : shown r ≡ collected w v
-  pub unchanged : can_collect w ≡ false → r ≡ w
+pub record Empties (ws : Windows) (p : ℕ) (r : Windows) : Type 0 where
+  pub own : shown r p ≡ []
+  pub others : OthersKept ws p r

@@ -1,5 +1,6 @@
 use Rattle.std.proofs.Common.{refl, rules, sym}
 use Rattle.record.specs.Record.{convert, converted, answer}
+use Rattle.record.proofs.Cleared.{accepted_clear}
 use Rattle.book.proofs.Responses.{refused_call, accepted_responds}
 use Rattle.converting.specs.Converts.{with_2023}
 use Rattle.converting.proofs.Conversions.{converted_view}
@@ -19,6 +20,6 @@ unfolding answer
 returns c =
     let b = c.args.b.now in
     record {
-      responds = accepted_responds b convert converted (with_2023 b) (sym c.in_ok-refusal_of.ensures) refl (converted_view b);
+      responds = accepted_responds b convert converted (with_2023 b) (sym c.in_ok-refusal_of.ensures) refl (converted_view b (accepted_clear _ _ (sym c.in_ok-refusal_of.ensures)).0);
       book = λ e. refl;
     }

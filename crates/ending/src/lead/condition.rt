@@ -36,34 +36,34 @@ fn count_earlier(contracts: &[Contract], month: u32, date: TradeDate) -> usize
 impl ProductMoves<'_> {
     // A move of a size is exactly I, within the first N.
     fn is_trigger(&self, month: u32, size: u32) -> bool
-        ensures { result ≡ (ltb (count_earlier (is_spot self.now.date) month (entries_of self.now.items.now.today)) (first_of self.now.product) && eqb size self.now.items.now.limit.initial) }
+        ensures { result ≡ (ltb (count_earlier (is_spot self.now.date) month (entries_of self.now.today.now)) (first_of self.now.product) && eqb size self.now.limit.initial) }
     {
-        if size != self.items.limit.initial {
+        if size != self.limit.initial {
             return false;
         }
-        let earlier = count_earlier(self.items.today.entries(), month, self.date);
+        let earlier = count_earlier(self.today.entries(), month, self.date);
         earlier < grain::first_contracts(self.product) as usize
     }
 
     // The move of a month meets the condition, and the product's moves suffice for it.
     #[tactic(auto, unfolding(crate::specs::Search::is_met_by, crate::specs::Search::meets_on))]
     pub(crate) fn meet(&self, condition: Condition, month: u32) -> bool
-        ensures { result ≡ is_met_by condition self.now.date self.now.product self.now.items.now month }
+        ensures { result ≡ is_met_by self.now.date self.now.product self.now.limit (entries_of self.now.today.now) (entries_of self.now.last.now) condition month }
     {
         if self.date.is_spot(month) {
             return false;
         }
-        let Some(settlement) = self.items.today.find(month) else {
+        let Some(settlement) = self.today.find(month) else {
             return false;
         };
-        let Some(size) = self.items.last.change_to(month, settlement) else {
+        let Some(size) = self.last.change_to(month, settlement) else {
             return false;
         };
         match condition {
             Condition::OneAtInitial => self.is_trigger(month, size),
             Condition::TwoAtInitial => self.is_trigger(month, size) && self.are_enough(),
-            Condition::AtLeastInitial => self.items.limit.initial <= size,
-            Condition::AtExpanded => size == self.items.limit.expanded,
+            Condition::AtLeastInitial => self.limit.initial <= size,
+            Condition::AtExpanded => size == self.limit.expanded,
         }
     }
 }

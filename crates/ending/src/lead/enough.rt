@@ -10,13 +10,10 @@ impl ProductMoves<'_> {
     // What a contract counts, if it is within the first N: 0 where it did not move by exactly I.
     #[tactic(auto, unfolding(crate::specs::Search::count_of))]
     fn count_of(&self, contract: &Contract) -> u32
-        ensures { result ≡ count_of self.now.product self.now.items.now.limit.initial (entries_of self.now.items.now.last) contract.now }
+        ensures { result ≡ count_of self.now.product self.now.limit.initial (entries_of self.now.last.now) contract.now }
     {
-        let change = self
-            .items
-            .last
-            .change_to(contract.month, contract.settlement);
-        if change != Some(self.items.limit.initial) {
+        let change = self.last.change_to(contract.month, contract.settlement);
+        if change != Some(self.limit.initial) {
             return 0;
         }
         if grain::is_last_crop_month(self.product, contract.month) {
@@ -26,11 +23,10 @@ impl ProductMoves<'_> {
     }
 
     pub(crate) fn are_enough(&self) -> bool
-        ensures { result ≡ are_enough_in self.now.date self.now.product self.now.items.now }
+        ensures { result ≡ are_enough_in self.now.date self.now.product self.now.limit (entries_of self.now.today.now) (entries_of self.now.last.now) }
     {
         let first = grain::first_contracts(self.product) as usize;
         let count: u32 = self
-            .items
             .today
             .entries()
             .iter()

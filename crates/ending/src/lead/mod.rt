@@ -6,10 +6,10 @@ ghost use Rattle.ending.specs.Moves.{moves_in};
 ghost use Rattle.ending.specs.Search.{is_met, FirstMet};
 
 use crate::moves::{GroupMoves, ProductMoves};
-use book::Product;
 pub(crate) use condition::Condition;
 use months::next_month;
 use record::Lead;
+use sheets::Sheet;
 use std::ops::Range;
 
 mod condition;
@@ -25,10 +25,10 @@ impl GroupMoves<'_> {
     }
 
     #[tactic(auto, using(book::proofs::ProductsBefore::before_next, book::proofs::ProductsBefore::before_small))]
-    fn products(&self) -> &[Product]
-        ensures { result.now ≡ slice_range self.now.day.book.now.products (products_before self.now.group) (products_before (self.now.group + 1)) }
+    fn sheets(&self) -> &[Sheet]
+        ensures { result.now ≡ slice_range self.now.day.book.now.today (products_before self.now.group) (products_before (self.now.group + 1)) }
     {
-        &self.day.book.products[self.numbers()]
+        &self.day.book.today[self.numbers()]
     }
 
     // The first product of the group whose contract of a month meets the condition.
@@ -36,13 +36,16 @@ impl GroupMoves<'_> {
     fn first_met(&self, condition: Condition, month: u32) -> Option<u32>
         ensures { FirstMet (is_met condition self.now.day.date self.now.day.book.now month) (products_before self.now.group) (products_before (self.now.group + 1)) result }
     {
+        let book = self.day.book;
         // By number, which the lead names.
         for p in self.numbers() {
             let product = p as u32;
             let moves = ProductMoves {
-                items: &self.day.book.products[p],
-                date: self.day.date,
                 product,
+                limit: book.limits[p],
+                today: &book.today[p],
+                last: &book.last[p],
+                date: self.day.date,
             };
             if moves.meet(condition, month) {
                 return Some(product);
@@ -54,11 +57,11 @@ impl GroupMoves<'_> {
     pub(crate) fn leading(&self, condition: Condition) -> Option<Lead>
         ensures { result ≡ lead_for condition (moves_in self.now) }
     {
-        let products = self.products();
+        let sheets = self.sheets();
         // In the date's month every contract is spot.
         let mut month = self.day.date.month;
         // Each turn starts from the month that the one before found.
-        while let Some(next) = next_month(products, month) {
+        while let Some(next) = next_month(sheets, month) {
             if let Some(product) = self.first_met(condition, next) {
                 return Some(Lead {
                     month: next,

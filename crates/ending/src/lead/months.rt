@@ -3,7 +3,6 @@ ghost use Rattle.std.specs.Prelude.{◌≡◌};
 ghost use Rattle.sheets.specs.Sheets.{entries_of};
 ghost use Rattle.ending.specs.Search.{next_on, next_among};
 
-use book::Product;
 use sheets::Sheet;
 
 // The nearest month on a sheet after a month.
@@ -21,8 +20,8 @@ fn next_on(sheet: &Sheet, after: u32) -> Option<u32>
 
 // The nearest on the sheets of today.
 #[tactic(auto, unfolding(crate::specs::Search::next_among))]
-pub(crate) fn next_month(group: &[Product], after: u32) -> Option<u32>
-    ensures { result ≡ next_among after group.now }
+pub(crate) fn next_month(sheets: &[Sheet], after: u32) -> Option<u32>
+    ensures { result ≡ next_among after sheets.now }
 {
-    group.iter().filter_map(|q| next_on(&q.today, after)).min()
+    sheets.iter().filter_map(|s| next_on(s, after)).min()
 }

@@ -41,8 +41,8 @@ returns c =
     let e = early a.b.now a.product a.months.now a.settlements.now (sym c.in_ok-early_refusal.ensures) in
     let s = c.of-sheet.result in
     let is = made a.months.now a.settlements.now s c.of-sheet.ensures e.arrays in
-    let some_contract : s.len ≡ 0 → ⊥ = λ z. e.arrays.some_contract (sym is.len ∙ z) in
-    let holds = sheet_in_lem s (contracts a.months.now a.settlements.now) some_contract (rw is.len e.arrays.fits) is.entries in
+    let some_contract : s.count ≡ 0 → ⊥ = λ z. e.arrays.some_contract (sym is.count ∙ z) in
+    let holds = sheet_in_lem s (contracts a.months.now a.settlements.now) some_contract (rw is.count e.arrays.fits) is.entries in
     accepted_responds a.b.now (sheet a.product a.months.now a.settlements.now) filed _
     (refusal_late a.b.now a.product a.months.now a.settlements.now s c.in_ok-date.ensures.refusal e is ∙ sym c.in_ok-contract_refusal.ensures) refl
     (filed_view a.b.now a.product s a.months.now a.settlements.now (search rules) holds)

@@ -3,11 +3,11 @@ ghost use Rattle.std.specs.Iterator.{IsFinite};
 
 use crate::shown::Shown;
 use book::Book;
+use grain::PRODUCT_COUNT;
 use record::{Contract, Day};
 use sheets::Sheet;
 use std::fmt;
 use std::fmt::{Display, Formatter};
-use windows::Window;
 
 impl Display for Shown<'_, Option<Day>> {
     fn fmt<W: fmt::Write>(&self, f: &mut Formatter<W>) -> fmt::Result {
@@ -18,10 +18,14 @@ impl Display for Shown<'_, Option<Day>> {
     }
 }
 
-impl Display for Shown<'_, Window> {
+// The settlements of a window.
+#[derive(Drop)]
+struct Kept<'a>(&'a [u32]);
+
+impl Display for Kept<'_> {
     fn fmt<W: fmt::Write>(&self, f: &mut Formatter<W>) -> fmt::Result {
         write!(f, "[")?;
-        f.write_joined(self.0.kept().iter(), ",")?;
+        f.write_joined(self.0.iter(), ",")?;
         write!(f, "]")
     }
 }
@@ -61,26 +65,21 @@ fn write_row<W: fmt::Write, T: Display + Drop, I: Iterator<Item = T>>(
 impl Display for Shown<'_, Book> {
     fn fmt<W: fmt::Write>(&self, f: &mut Formatter<W>) -> fmt::Result {
         let b = self.0;
-        write!(f, "book open={}", u8::from(b.is_open))?;
-        write!(f, " date={}", Shown(&b.opened))?;
-        match b.opened {
-            Some(day) if b.is_open => write!(f, " left={}", day.left)?,
+        let opened = b.opened();
+        write!(f, "book open={}", b.is_open)?;
+        write!(f, " date={}", Shown(&opened))?;
+        match opened {
+            Some(day) if b.has_open_day() => write!(f, " left={}", day.left)?,
             _ => write!(f, " left=-")?,
         }
-        let levels = b.standings.iter().map(|s| u8::from(s.expanded));
-        write_row(f, "level", levels, "")?;
-        let marks = b.standings.iter().map(|s| u8::from(s.marked));
-        write_row(f, "mark", marks, "")?;
-        write_row(f, "I", b.products.iter().map(|q| q.limit.initial), ",")?;
-        write_row(f, "E", b.products.iter().map(|q| q.limit.expanded), ",")?;
-        write_row(
-            f,
-            "windows",
-            b.products.iter().map(|q| Shown(&q.window)),
-            ";",
-        )?;
-        write_row(f, "in", b.products.iter().map(|q| Shown(&q.today)), ";")?;
-        write_row(f, "last", b.products.iter().map(|q| Shown(&q.last)), ";")?;
+        write_row(f, "level", b.standings.iter().map(|s| s.expanded), "")?;
+        write_row(f, "mark", b.standings.iter().map(|s| s.marked), "")?;
+        write_row(f, "I", b.limits.iter().map(|limit| limit.initial), ",")?;
+        write_row(f, "E", b.limits.iter().map(|limit| limit.expanded), ",")?;
+        let windows = (0..PRODUCT_COUNT).map(|p| Kept(b.windows.kept(p)));
+        write_row(f, "windows", windows, ";")?;
+        write_row(f, "in", b.today.iter().map(Shown), ";")?;
+        write_row(f, "last", b.last.iter().map(Shown), ";")?;
         write!(f, " edition={}", b.edition)
     }
 }

@@ -6,10 +6,10 @@ use Rattle.book.proofs.Book.expect.Goals as goal
 pub returns-then-not-is_sound : goal.returns-then-not-is_sound
 returns-then-not-is_sound c = rw (unsound_phase c.args.is_open (view c.args.self.now) (sym c.if-not-is_sound.ensures))
 
-pub returns-then-self-is_open : goal.returns-then-self-is_open
+pub returns-then-has_open_day-is_open : goal.returns-then-has_open_day-is_open
 unfolding view view_common
-returns-then-self-is_open c = sym (other_phase c.args.is_open (view c.args.self.now) (sym c.if-not-is_sound.ensures) c.if-self-is_open.true)
+returns-then-has_open_day-is_open c = sym (other_phase c.args.is_open (view c.args.self.now) (sym c.if-not-is_sound.ensures) (rw c.has_open_day.ensures at c.if-has_open_day-is_open.true))
 
 pub returns : goal.returns
 unfolding view view_common
-returns c = sym (own_phase c.args.is_open (view c.args.self.now) (sym c.if-not-is_sound.ensures) c.if-self-is_open.false)
+returns c = sym (own_phase c.args.is_open (view c.args.self.now) (sym c.if-not-is_sound.ensures) (rw c.has_open_day.ensures at c.if-has_open_day-is_open.false))

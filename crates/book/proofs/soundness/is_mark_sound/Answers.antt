@@ -1,11 +1,11 @@
-use borrow.Author.Tests.{not-true, not-false}
+use Rattle.std.proofs.Common.{sym, ◌∙◌}
 use Rattle.book.proofs.soundness.is_mark_sound.Goals as goal
 
-pub returns-then-not-standing : goal.returns-then-not-standing
-returns-then-not-standing c = rw c.if-not-standing.true
+pub returns-then-not-is_marked : goal.returns-then-not-is_marked
+returns-then-not-is_marked c = rw (sym c.is_marked.ensures ∙ c.if-not-is_marked.true)
 
-pub returns-then-not-standing-2 : goal.returns-then-not-standing-2
-returns-then-not-standing-2 c = rw (c.if-not-standing.false, not-true c.args.standing.expanded c.if-not-standing-2.true)
+pub returns-then-not-is_expanded : goal.returns-then-not-is_expanded
+returns-then-not-is_expanded c = rw (sym c.is_marked.ensures ∙ c.if-not-is_marked.false, sym c.is_expanded.ensures ∙ c.if-not-is_expanded.true)
 
 pub returns : goal.returns
-returns c = rw (c.if-not-standing.false, not-false c.args.standing.expanded c.if-not-standing-2.false)
+returns c = rw (sym c.is_marked.ensures ∙ c.if-not-is_marked.false, sym c.is_expanded.ensures ∙ c.if-not-is_expanded.false)

@@ -1,8 +1,8 @@
-use Rattle.std.proofs.Common.{refl, rules}
-use Rattle.record.specs.Record.{ended}
-use Rattle.gateway.proofs.Leaves.{written_image}
+use Rattle.std.proofs.Common.{refl}
+use Rattle.record.specs.Record.{end, ended}
+use Rattle.gateway.proofs.Leaves.{accepted_image}
 use Rattle.gateway.proofs.calls.botskhela_end.Goals as goal
 
-pub returns : goal.returns
-returns c =
-    written_image ended c.args.words.now _ _ _ (λ a. refl) (λ lent a left p. search rules) _ _ _ (rw c.book_in-b.ensures at c.end-events.ensures) c.write.ensures
+pub returns-in-Ok : goal.returns-in-Ok
+returns-in-Ok c =
+    accepted_image c.args.image.now end (ended c.in-Ok.events) _ (rw c.in-Ok.is at c.end.ensures) _ _ refl refl c.events_words-image.ensures

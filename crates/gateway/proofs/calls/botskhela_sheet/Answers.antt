@@ -1,8 +1,9 @@
-use Rattle.std.proofs.Common.{refl, rules}
-use Rattle.record.specs.Record.{filed}
-use Rattle.gateway.proofs.Leaves.{written_image}
+use Rattle.std.proofs.Common.{refl}
+use Rattle.record.specs.Record.{sheet, filed}
+use Rattle.gateway.proofs.Leaves.{silent_image}
 use Rattle.gateway.proofs.calls.botskhela_sheet.Goals as goal
 
 pub returns : goal.returns
 returns c =
-    written_image (λ a. filed) c.args.words.now _ _ _ (λ a. refl) (λ lent a left p. search rules) _ _ _ (rw c.book_in-b.ensures at c.sheet-filed.ensures) c.write.ensures
+    let a = c.args in
+    rw c.number.ensures (silent_image a.image.now (sheet a.product a.months.now a.settlements.now) filed _ c.sheet.result refl refl refl c.sheet.ensures)

@@ -9,12 +9,12 @@ use Rattle.gateway.proofs.tallied.through.Goals as goal
 pub returns : goal.returns
 returns c =
     let n = checked_number c.args.checked in
-    let t = c.from-t.result in
+    let t = c.args.tally.now in
     let u = c.through-answer.new.self in
     let r = c.through-answer.result in
     let s = c.through-answer.ensures in
     let taken : takes t ≡ true → (checked_number r ≡ n) × (u ≡ counted t (kind_of r)) = λ e. let w = s.taken e in (rw w.0, rw w.0 w.1) in
-    rw (c.checked_number.ensures, c.into.ensures, ← c.from-t.ensures)
+    rw (c.checked_number.ensures)
     (record {
       answer = answered checked_number (λ m. m) (λ x. refl) kind_of_number same_kind t u r n taken s.refused;
       tally = tallied checked_number (λ m. m) (λ x. refl) kind_of_number same_kind t u r n taken s.refused;

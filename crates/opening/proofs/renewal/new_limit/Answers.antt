@@ -9,4 +9,4 @@ returns c =
     let a = c.args in
     let renews : a.change.renews ≡ true = not-false a.change.renews c.if-not-change.false in
     rw renews
-    (c.ok.ensures.value ∙ limits_given a.p (shown a.window.now) c.requires.0 c.requires.1 c.season_limits.result c.season_limits.ensures)
+    (c.ok.ensures.value ∙ limits_given a.p (shown a.windows.now a.p) c.requires.0 c.requires.1 c.season_limits.result c.season_limits.ensures)

@@ -13,7 +13,7 @@ use Rattle.ending.proofs.moves.GroupMoves.leading.Goals.{After-next_month}
 near : (c : After-next_month) → Nearest (Among c.args.self.now.day.book.now (products_before c.args.self.now.group) (products_before (c.args.self.now.group + 1))) c.loop-next.month c.next_month.result
 near c =
     let m = c.args.self.now in
-    nearest_in m.day.book.now (products_before m.group) (products_before (m.group + 1)) c.loop-next.month _ (rw c.products-products.ensures at c.next_month.ensures)
+    nearest_in m.day.book.now (products_before m.group) (products_before (m.group + 1)) c.loop-next.month _ (rw c.sheets-sheets.ensures at c.next_month.ensures)
 
 ahead : (c : After-next_month)
     → let m = c.args.self.now in

@@ -5,7 +5,7 @@ use Rattle.sheets.proofs.sheet.Sheet.is_none.Goals as goal
 
 pub returns : goal.returns
 unfolding sheet_in
-returns c = go (eqb c.args.self.now.len 0)
+returns c = go (eqb c.args.self.now.count 0)
   where
     go : (b : Bool) → b ≡ not (is_some (cond b None (Some (contracts_of c.args.self.now))))
     go true = refl

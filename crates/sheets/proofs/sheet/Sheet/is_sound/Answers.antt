@@ -15,11 +15,11 @@ counted : {A : Type 0} (none : Bool) (a : A) → not (is_some (cond none None (S
 counted true a = refl
 counted false a = refl
 
-by_count : (s : Sheet) → not (is_some (sheet_in s)) ≡ eqb s.len 0
+by_count : (s : Sheet) → not (is_some (sheet_in s)) ≡ eqb s.count 0
 unfolding sheet_in
-by_count s = counted (eqb s.len 0) (contracts_of s)
+by_count s = counted (eqb s.count 0) (contracts_of s)
 
-has_some : (c : Else-is_none) → c.args.self.now.len ≡ 0 → ⊥
+has_some : (c : Else-is_none) → c.args.self.now.count ≡ 0 → ⊥
 has_some c e =
     let z : ◌≡◌ {A = Bool} true false = sym (eq-eqb _ _ e) ∙ sym (by_count c.args.self.now) ∙ sym c.is_none.ensures ∙ c.if-is_none.false in
     cc

@@ -24,6 +24,6 @@ returns c =
     let long : length c.loop-i.yielded ≡ min 16 (length (contracts ms ss)) = sym (length-map c.loop-i.yielded _) ∙ ap length put ∙ length-take 16 (contracts ms ss) in
     let n : c.min-n.result ≡ min 16 (length (contracts ms ss)) = rw (contracts-length ms ss) (omega arith) in
     record {
-      len = n ∙ sym (length-take 16 (contracts ms ss));
+      count = n ∙ sym (length-take 16 (contracts ms ss));
       entries = rw (n ∙ sym long) (c.loop-i.invariant.2 ∙ put);
     }
