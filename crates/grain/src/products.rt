@@ -1,4 +1,4 @@
-// The product table, a row for each product in the order of their numbers.
+// The product table. Its columns stand apart since they are those of the definitions; one function reads each.
 ghost use Rattle.std.specs.Prelude.{◌≡◌, ◌<◌};
 ghost use Rattle.grain.specs.Products.{product_count, is_product, step_of, floor_of, first_of, tick_of, is_traded, is_last_crop_month};
 
@@ -8,94 +8,30 @@ pub const PRODUCT_COUNT: usize = 8;
 // The same in the type of a product's number.
 pub(crate) const PRODUCTS: u32 = PRODUCT_COUNT as u32;
 
-#[derive(Clone, Copy, Debug, PartialEq, Eq)]
-struct Row {
-    step: u8,
-    // The least initial limit.
-    floor: u16,
-    // N, how many of the first listed non-spot contracts can trigger.
-    first: u8,
-    // The last month of the crop year; January is 1.
-    last_crop_month: u8,
-    // Of the standard size and of the mini; 0 where no mini is offered.
-    ticks: [u8; 2],
-    // Months traded: bit 0 is January.
-    months: u16,
-}
+const STEPS: [u8; PRODUCT_COUNT] = [40, 40, 50, 50, 40, 40, 40, 10];
 
-const TABLE: [Row; PRODUCT_COUNT] = [
-    // Corn
-    Row {
-        step: 40,
-        floor: 160,
-        first: 5,
-        last_crop_month: 9,
-        ticks: [2, 1],
-        months: 0b1001_0101_0100,
-    },
-    // Soybeans
-    Row {
-        step: 40,
-        floor: 400,
-        first: 7,
-        last_crop_month: 8,
-        ticks: [2, 1],
-        months: 0b0101_1101_0101,
-    },
-    // Soybean Oil
-    Row {
-        step: 50,
-        floor: 200,
-        first: 8,
-        last_crop_month: 9,
-        ticks: [1, 0],
-        months: 0b1011_1101_0101,
-    },
-    // Soybean Meal
-    Row {
-        step: 50,
-        floor: 200,
-        first: 8,
-        last_crop_month: 9,
-        ticks: [1, 0],
-        months: 0b1011_1101_0101,
-    },
-    // Chicago Wheat
-    Row {
-        step: 40,
-        floor: 240,
-        first: 5,
-        last_crop_month: 5,
-        ticks: [2, 1],
-        months: 0b1001_0101_0100,
-    },
-    // KC Wheat
-    Row {
-        step: 40,
-        floor: 240,
-        first: 5,
-        last_crop_month: 5,
-        ticks: [2, 0],
-        months: 0b1001_0101_0100,
-    },
-    // Oats
-    Row {
-        step: 40,
-        floor: 160,
-        first: 5,
-        last_crop_month: 5,
-        ticks: [2, 0],
-        months: 0b1001_0101_0100,
-    },
-    // Rough Rice
-    Row {
-        step: 10,
-        floor: 100,
-        first: 6,
-        last_crop_month: 7,
-        ticks: [1, 0],
-        months: 0b0101_0101_0101,
-    },
+// The least initial limits.
+const FLOORS: [u16; PRODUCT_COUNT] = [160, 400, 200, 200, 240, 240, 160, 100];
+
+// N of each, how many of the first listed non-spot contracts can trigger.
+const FIRSTS: [u8; PRODUCT_COUNT] = [5, 7, 8, 8, 5, 5, 5, 6];
+
+// The last month of each crop year; January is 1.
+const LAST_CROP_MONTHS: [u8; PRODUCT_COUNT] = [9, 8, 9, 9, 5, 5, 5, 7];
+
+// Of the standard sizes and of the minis; 0 where no mini is offered.
+const TICKS: [[u8; PRODUCT_COUNT]; 2] = [[2, 2, 1, 1, 2, 2, 2, 1], [1, 1, 0, 0, 1, 0, 0, 0]];
+
+// Months traded: bit 0 is January.
+const MONTHS: [u16; PRODUCT_COUNT] = [
+    0b1001_0101_0100,
+    0b0101_1101_0101,
+    0b1011_1101_0101,
+    0b1011_1101_0101,
+    0b1001_0101_0100,
+    0b1001_0101_0100,
+    0b1001_0101_0100,
+    0b0101_0101_0101,
 ];
 
 pub fn is_product(product: u32) -> bool
@@ -109,14 +45,14 @@ pub(crate) fn step(product: u32) -> u32
     requires { product < product_count }
     ensures { result ≡ step_of product }
 {
-    TABLE[product as usize].step as u32
+    STEPS[product as usize] as u32
 }
 
 pub(crate) fn floor(product: u32) -> u32
     requires { product < product_count }
     ensures { result ≡ floor_of product }
 {
-    TABLE[product as usize].floor as u32
+    FLOORS[product as usize] as u32
 }
 
 // N; 0 where there is no such product.
@@ -126,7 +62,7 @@ pub fn first_contracts(product: u32) -> u32
     if PRODUCTS <= product {
         return 0;
     }
-    TABLE[product as usize].first as u32
+    FIRSTS[product as usize] as u32
 }
 
 // The tick of a size, 0 standard and 1 mini; 0 where the product or the size is not offered, and no price is on a tick of 0.
@@ -139,7 +75,7 @@ pub fn tick(product: u32, size: u32) -> u32
     if 1 < size {
         return 0;
     }
-    TABLE[product as usize].ticks[size as usize] as u32
+    TICKS[size as usize][product as usize] as u32
 }
 
 // Whether the product trades in the calendar month of a contract month.
@@ -149,7 +85,7 @@ pub fn is_traded(product: u32, month: u32) -> bool
     if PRODUCTS <= product {
         return false;
     }
-    (TABLE[product as usize].months >> (month % 12)) % 2 == 1
+    (MONTHS[product as usize] >> (month % 12)) % 2 == 1
 }
 
 // Whether a contract month is the last of the product's crop year.
@@ -159,5 +95,5 @@ pub fn is_last_crop_month(product: u32, month: u32) -> bool
     if PRODUCTS <= product {
         return false;
     }
-    month % 12 + 1 == TABLE[product as usize].last_crop_month as u32
+    month % 12 + 1 == LAST_CROP_MONTHS[product as usize] as u32
 }

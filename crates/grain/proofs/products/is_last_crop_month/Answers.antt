@@ -2,7 +2,6 @@ use mathlib.Core.Path.{refl, sym}
 use native.Mathlib.Omega.{arith}
 use borrow.Author.Tests.{ne_eqb}
 use Rattle.grain.specs.Products.{last_crop_months, calendar_month, is_last_crop_month}
-use Rattle.grain.proofs.Below.{by_cases}
 use Rattle.grain.proofs.Columns.{beyond}
 use Rattle.grain.proofs.products.is_last_crop_month.Goals as goal
 
@@ -16,4 +15,4 @@ returns-then-product-ge-PRODUCTS c =
 
 pub returns : goal.returns
 unfolding is_last_crop_month last_crop_months
-returns c = by_cases _ c.args.product 8 c.if-product-ge-PRODUCTS.false (λ e. rw e) (λ e. rw e) (λ e. rw e) (λ e. rw e) (λ e. rw e) (λ e. rw e) (λ e. rw e) (λ e. rw e)
+returns c = refl

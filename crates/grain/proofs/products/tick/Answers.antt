@@ -20,5 +20,4 @@ pub returns : goal.returns
 unfolding tick_of standard_ticks mini_ticks
 returns c =
     let small : c.args.size < 2 = omega arith in
-    by_cases _ c.args.product 8 c.if-product-ge-PRODUCTS.false
-    (λ e. (by_cases _ c.args.size 2 small (λ f. rw (e, f)) (λ f. rw (e, f)))) (λ e. (by_cases _ c.args.size 2 small (λ f. rw (e, f)) (λ f. rw (e, f)))) (λ e. (by_cases _ c.args.size 2 small (λ f. rw (e, f)) (λ f. rw (e, f)))) (λ e. (by_cases _ c.args.size 2 small (λ f. rw (e, f)) (λ f. rw (e, f)))) (λ e. (by_cases _ c.args.size 2 small (λ f. rw (e, f)) (λ f. rw (e, f)))) (λ e. (by_cases _ c.args.size 2 small (λ f. rw (e, f)) (λ f. rw (e, f)))) (λ e. (by_cases _ c.args.size 2 small (λ f. rw (e, f)) (λ f. rw (e, f)))) (λ e. (by_cases _ c.args.size 2 small (λ f. rw (e, f)) (λ f. rw (e, f))))
+    by_cases _ c.args.size 2 small (λ e. rw e) (λ e. rw e)
