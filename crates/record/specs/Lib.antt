@@ -15,3 +15,5 @@ pub mod Record
 pub mod History
 pub mod Replay
 pub mod Theorems
+pub mod Examples
+pub mod Marked

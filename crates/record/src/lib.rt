@@ -3,7 +3,7 @@
 
 mod laws;
 
-pub use laws::theorems;
+pub use laws::{marked_numbers, theorems};
 
 // A date with its left: the business days of its month after it.
 #[repr(C)]
