@@ -1,5 +1,5 @@
 pub mod Shows
+pub mod Traces
 pub mod Agrees
 pub mod Follows
 pub mod Proved
-pub mod Ties

@@ -1,19 +1,15 @@
 // What answers a line.
 use crate::shown::Shown;
 use book::Book;
-use grain::{PRODUCT_COUNT, Refusal, Verdict};
-use record::{Event, GROUP_COUNT};
+use grain::{Refusal, Verdict};
+use history::Reply;
 use std::fmt;
 use std::fmt::{Display, Formatter};
 
 #[derive(Clone, Copy, Debug, PartialEq, Eq)]
 pub enum Answer<'a> {
     Founded,
-    // Which products have new limits.
-    Opened([bool; PRODUCT_COUNT]),
-    Filed,
-    Ended([Event; GROUP_COUNT]),
-    Converted,
+    Replied(Reply),
     Judged(Verdict),
     Book(&'a Book),
 }
@@ -46,16 +42,7 @@ impl Display for Answer<'_> {
     fn fmt<W: fmt::Write>(&self, f: &mut Formatter<W>) -> fmt::Result {
         match self {
             Answer::Founded => write!(f, "founded"),
-            Answer::Opened(renewed) => {
-                write!(f, "opened ")?;
-                f.write_joined(renewed.iter().map(|r| u8::from(*r)), " ")
-            }
-            Answer::Filed => write!(f, "filed"),
-            Answer::Ended(events) => {
-                write!(f, "ended ")?;
-                f.write_joined(events.iter().map(Shown), " ")
-            }
-            Answer::Converted => write!(f, "converted"),
+            Answer::Replied(reply) => write!(f, "{}", Shown(reply)),
             Answer::Judged(verdict) => write!(f, "{}", Shown(verdict)),
             Answer::Book(book) => write!(f, "{}", Shown(*book)),
         }

@@ -1,32 +1,29 @@
-// The calls that a line can be.
+// What a line can ask.
 use crate::words::{ParseError, number, numbers, split_word};
 use grain::PRODUCT_COUNT;
+use history::{Call, Filing, Order};
 use record::Day;
 use std::alloc::Global;
 
-#[derive(Debug, Drop, PartialEq, Eq)]
-pub enum Call {
+#[derive(Clone, Copy, Debug)]
+pub enum Line<'a> {
     Found(Founding),
-    Open(Day),
-    Sheet(Filing),
-    End,
-    Convert,
-    Check(Check),
+    Call(Call<'a>),
     Bare(BareCheck),
     Book,
 }
 
-impl Call {
-    pub fn parse(alloc: Global, line: &[u8]) -> Result<Call, ParseError> {
+impl<'a> Line<'a> {
+    pub fn parse(sheet: &'a mut SheetNumbers, line: &[u8]) -> Result<Line<'a>, ParseError> {
         match split_word(line) {
-            (b"found", Some(words)) => Ok(Call::Found(Founding::parse(words)?)),
-            (b"open", Some(words)) => Ok(Call::Open(day(words)?)),
-            (b"sheet", Some(words)) => Ok(Call::Sheet(Filing::parse(alloc, words)?)),
-            (b"end", None) => Ok(Call::End),
-            (b"convert", None) => Ok(Call::Convert),
-            (b"check", Some(words)) => Ok(Call::Check(Check::parse(words)?)),
-            (b"bare", Some(words)) => Ok(Call::Bare(BareCheck::parse(words)?)),
-            (b"book", None) => Ok(Call::Book),
+            (b"found", Some(words)) => Ok(Line::Found(Founding::parse(words)?)),
+            (b"open", Some(words)) => Ok(Line::Call(Call::Open(day(words)?))),
+            (b"sheet", Some(words)) => Ok(Line::Call(Call::Sheet(sheet.parse(words)?))),
+            (b"end", None) => Ok(Line::Call(Call::End)),
+            (b"convert", None) => Ok(Line::Call(Call::Convert)),
+            (b"check", Some(words)) => Ok(Line::Call(Call::Check(order(words)?))),
+            (b"bare", Some(words)) => Ok(Line::Bare(BareCheck::parse(words)?)),
+            (b"book", None) => Ok(Line::Book),
             _ => Err(ParseError::NotCall),
         }
     }
@@ -58,54 +55,55 @@ fn day(words: &[u8]) -> Result<Day, ParseError> {
     })
 }
 
-#[derive(Debug, Drop, PartialEq, Eq)]
-pub struct Filing {
-    pub product: u32,
-    pub months: Vec<u32>,
-    pub settlements: Vec<u32>,
+fn order(words: &[u8]) -> Result<Order, ParseError> {
+    let [product, size, month, price] = numbers::<4>(words)?;
+    Ok(Order {
+        product,
+        size,
+        month,
+        price,
+    })
 }
 
-impl Filing {
+// The numbers of a sheet: its line lends them to the call, and the next one's take their place.
+#[derive(Drop)]
+pub struct SheetNumbers {
+    months: Vec<u32>,
+    settlements: Vec<u32>,
+}
+
+impl SheetNumbers {
+    pub fn new(alloc: Global) -> SheetNumbers {
+        SheetNumbers {
+            months: Vec::new(alloc),
+            settlements: Vec::new(alloc),
+        }
+    }
+
     // A product, the word months, any number of them, the word settlements, and any number of them.
-    fn parse(alloc: Global, words: &[u8]) -> Result<Filing, ParseError> {
+    fn parse(&mut self, words: &[u8]) -> Result<Filing<'_>, ParseError> {
         let (product, rest) = split_word(words);
         let product = number(product)?;
         let (b"months", Some(rest)) = split_word(rest.ok_or(ParseError::NotCall)?) else {
             return Err(ParseError::NotCall);
         };
-        let mut months = Vec::new(alloc);
-        let mut settlements = None;
+        self.months.clear();
+        self.settlements.clear();
+        let mut are_settlements = false;
         for word in rest.split(|b| *b == b' ') {
-            match (&mut settlements, word) {
-                (None, b"settlements") => settlements = Some(Vec::new(alloc)),
-                (None, month) => months.push(number(month)?)?,
-                (Some(all), settlement) => all.push(number(settlement)?)?,
+            match (are_settlements, word) {
+                (false, b"settlements") => are_settlements = true,
+                (false, month) => self.months.push(number(month)?)?,
+                (true, settlement) => self.settlements.push(number(settlement)?)?,
             }
+        }
+        if !are_settlements {
+            return Err(ParseError::NotCall);
         }
         Ok(Filing {
             product,
-            months,
-            settlements: settlements.ok_or(ParseError::NotCall)?,
-        })
-    }
-}
-
-#[derive(Clone, Copy, Debug, PartialEq, Eq)]
-pub struct Check {
-    pub product: u32,
-    pub size: u32,
-    pub month: u32,
-    pub price: u32,
-}
-
-impl Check {
-    fn parse(words: &[u8]) -> Result<Check, ParseError> {
-        let [product, size, month, price] = numbers::<4>(words)?;
-        Ok(Check {
-            product,
-            size,
-            month,
-            price,
+            months: &self.months,
+            settlements: &self.settlements,
         })
     }
 }

@@ -12,7 +12,7 @@ mod state;
 mod words;
 
 use answer::Failure;
-use call::Call;
+use call::{Line, SheetNumbers};
 use state::State;
 use words::ParseError;
 
@@ -21,16 +21,16 @@ const BLOCK: usize = 65536;
 
 // An empty line and a remark have no answer.
 fn answer_line<W: Write>(
-    alloc: Global,
     state: &mut State,
+    sheet: &mut SheetNumbers,
     line: &[u8],
     output: &mut W,
 ) -> io::Result<()> {
     if line.is_empty() || line.starts_with(b"#") {
         return Ok(());
     }
-    let outcome = match Call::parse(alloc, line) {
-        Ok(call) => state.answer(call),
+    let outcome = match Line::parse(sheet, line) {
+        Ok(asked) => state.answer(asked),
         Err(ParseError::NotCall) => Err(Failure::NotCall),
         Err(ParseError::OutOfMemory(e)) => return Err(io::Error::from(e)),
     };
@@ -47,15 +47,16 @@ fn answer_all<R: BufRead, W: Write>(
     output: &mut W,
 ) -> io::Result<()> {
     let mut state = State::default();
+    let mut sheet = SheetNumbers::new(alloc);
     let mut line = Vec::new(alloc);
     // A proved loop has to end, so it counts up to a number that no input reaches.
     for _ in 0..u64::MAX {
         line.clear();
         input.read_until(b'\n', &mut line)?;
         let Some(whole) = line.strip_suffix(b"\n") else {
-            return answer_line(alloc, &mut state, &line, output);
+            return answer_line(&mut state, &mut sheet, &line, output);
         };
-        answer_line(alloc, &mut state, whole, output)?;
+        answer_line(&mut state, &mut sheet, whole, output)?;
     }
     Ok(())
 }

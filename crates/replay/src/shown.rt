@@ -1,5 +1,6 @@
 // What the crates below answer, as text.
 use grain::{Span, Verdict};
+use history::Reply;
 use record::{Event, Lead};
 use std::fmt;
 use std::fmt::{Display, Formatter};
@@ -41,6 +42,24 @@ impl Display for Shown<'_, Event> {
             Event::Held(lead) => write!(f, "held:{}", Shown(lead)),
             Event::Reverted => write!(f, "reverted"),
             Event::Raised(lead) => write!(f, "raised:{}", Shown(lead)),
+        }
+    }
+}
+
+impl Display for Shown<'_, Reply> {
+    fn fmt<W: fmt::Write>(&self, f: &mut Formatter<W>) -> fmt::Result {
+        match self.0 {
+            Reply::Opened(renewed) => {
+                write!(f, "opened ")?;
+                f.write_joined(renewed.iter().map(|r| u8::from(*r)), " ")
+            }
+            Reply::Filed => write!(f, "filed"),
+            Reply::Ended(events) => {
+                write!(f, "ended ")?;
+                f.write_joined(events.iter().map(Shown), " ")
+            }
+            Reply::Converted => write!(f, "converted"),
+            Reply::Checked(verdict) => write!(f, "{}", Shown(verdict)),
         }
     }
 }

@@ -1,6 +1,6 @@
 // Where a history stands after some of its calls.
 use crate::answer::{Answer, Failure};
-use crate::call::Call;
+use crate::call::Line;
 use book::Book;
 
 #[derive(Debug, Default, Drop, PartialEq, Eq)]
@@ -18,27 +18,14 @@ impl State {
         self.book.as_mut().ok_or(Failure::NoBook)
     }
 
-    pub fn answer(&mut self, call: Call) -> Result<Answer<'_>, Failure> {
-        match call {
-            Call::Found(f) => {
+    pub fn answer(&mut self, line: Line<'_>) -> Result<Answer<'_>, Failure> {
+        match line {
+            Line::Found(f) => {
                 self.book = Some(book::found(f.edition, f.limits)?);
                 Ok(Answer::Founded)
             }
-            Call::Open(day) => Ok(Answer::Opened(opening::opening(self.book_mut()?, day)?)),
-            Call::Sheet(f) => {
-                filing::sheet(self.book_mut()?, f.product, &f.months, &f.settlements)?;
-                Ok(Answer::Filed)
-            }
-            Call::End => Ok(Answer::Ended(ending::end(self.book_mut()?)?)),
-            Call::Convert => {
-                converting::convert(self.book_mut()?)?;
-                Ok(Answer::Converted)
-            }
-            Call::Check(c) => {
-                let verdict = checking::check(self.book()?, c.product, c.size, c.month, c.price)?;
-                Ok(Answer::Judged(verdict))
-            }
-            Call::Bare(c) => {
+            Line::Call(call) => Ok(Answer::Replied(history::respond(self.book_mut()?, call)?)),
+            Line::Bare(c) => {
                 let verdict = grain::bare_check(
                     c.product,
                     c.size,
@@ -49,7 +36,7 @@ impl State {
                 )?;
                 Ok(Answer::Judged(verdict))
             }
-            Call::Book => Ok(Answer::Book(self.book()?)),
+            Line::Book => Ok(Answer::Book(self.book()?)),
         }
     }
 }

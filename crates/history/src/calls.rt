@@ -1,0 +1,76 @@
+// The calls on a book as values: one function makes any of them, and one makes a list of them.
+ghost use Rattle.std.specs.Prelude.{◌≡◌, map, length, take, drop};
+ghost use Rattle.history.specs.Calls.{call_as, told};
+ghost use Rattle.history.specs.Step.{Step};
+ghost use Rattle.history.specs.Trace.{Trace};
+
+use book::Book;
+use grain::{PRODUCT_COUNT, Refusal, Verdict};
+use record::{Day, Event, GROUP_COUNT};
+
+// The numbers of an order.
+#[derive(Clone, Copy, Debug, PartialEq, Eq)]
+pub struct Order {
+    pub product: u32,
+    pub size: u32,
+    pub month: u32,
+    pub price: u32,
+}
+
+// A product's sheet as two arrays.
+#[derive(Clone, Copy, Debug, PartialEq, Eq)]
+pub struct Filing<'a> {
+    pub product: u32,
+    pub months: &'a [u32],
+    pub settlements: &'a [u32],
+}
+
+#[derive(Clone, Copy, Debug, PartialEq, Eq)]
+pub enum Call<'a> {
+    Open(Day),
+    Sheet(Filing<'a>),
+    End,
+    Convert,
+    Check(Order),
+}
+
+// What an accepted call answers.
+#[derive(Clone, Copy, Debug, PartialEq, Eq)]
+pub enum Reply {
+    // Which products have new limits.
+    Opened([bool; PRODUCT_COUNT]),
+    Filed,
+    Ended([Event; GROUP_COUNT]),
+    Converted,
+    Checked(Verdict),
+}
+
+// Makes a call.
+pub fn respond(b: &mut Book, call: Call<'_>) -> Result<Reply, Refusal>
+    ensures { Step b.old (call_as call.entry) (told result) b.new }
+{
+    match call {
+        Call::Open(day) => opening::opening(b, day).map(Reply::Opened),
+        Call::Sheet(f) => {
+            let filed = filing::sheet(b, f.product, f.months, f.settlements);
+            filed.map(|()| Reply::Filed)
+        }
+        Call::End => ending::end(b).map(Reply::Ended),
+        Call::Convert => converting::convert(b).map(|()| Reply::Converted),
+        Call::Check(o) => {
+            let checked = checking::check(b, o.product, o.size, o.month, o.price);
+            checked.map(Reply::Checked)
+        }
+    }
+}
+
+// Makes calls in order, as long as there is a place for what the next is answered: of a list that has as many places all are made, however
+// many they are, as no memory can give out. Places beyond the list stay as they are.
+pub fn run(b: &mut Book, calls: &[Call<'_>], replies: &mut [Result<Reply, Refusal>])
+    ensures made { Trace Step b.old (map call_as (take (length replies.old) calls.now)) (map told (take (length calls.now) replies.new)) b.new }
+    ensures rest { drop (length calls.now) replies.new ≡ drop (length calls.now) replies.old }
+{
+    for i in 0..calls.len().min(replies.len()) {
+        replies[i] = respond(b, calls[i]);
+    }
+}
