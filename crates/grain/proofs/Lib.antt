@@ -24,3 +24,5 @@ pub mod Tests
 pub mod ValidDates
 pub mod Judged
 pub mod Defaults
+mod Joins
+mod Years

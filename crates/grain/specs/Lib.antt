@@ -10,3 +10,4 @@ pub mod Spans
 pub mod Refusals
 pub mod Bare
 pub mod Margin
+pub mod Joined

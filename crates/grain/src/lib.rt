@@ -23,9 +23,9 @@ pub use check::{Span, Verdict, judge};
 pub use dates::{is_date, month_length};
 pub use laws::{every_span, step_rounding};
 pub use margin::{DateFacts, date_facts, expanded_limit, season_limits};
-pub use prices::{MAX_PRICE, are_on_tick, is_on_tick, is_settlement};
+pub use prices::{MAX_PRICE, are_joined_on_tick, are_on_tick, is_on_tick, is_settlement, join};
 pub use products::{
-    PRODUCT_COUNT, first_contracts, is_last_crop_month, is_product, is_traded, tick,
+    PRODUCT_COUNT, first_contracts, is_last_crop_month, is_product, is_traded, tick, traded_from,
 };
 pub use refusals::Refusal;
 pub use spot::TradeDate;

@@ -1,12 +1,17 @@
 // Prices and settlements: in range and on the tick.
-ghost use Rattle.std.specs.Prelude.{◌≡◌};
+ghost use Rattle.std.specs.Prelude.{ℕ, ◌≡◌, true};
 ghost use Rattle.grain.specs.Lists.{every};
 ghost use Rattle.grain.specs.Prices.{is_on_tick, is_settlement};
+ghost use Rattle.grain.specs.Joined.{IsJoined};
 
+use crate::amounts::WINDOW_LENGTH;
 use crate::products::tick;
 
 // Prices and settlements run from 1 to it.
 pub const MAX_PRICE: u32 = 1000000;
+
+// A price of at most that much more than a tick of 1 or 2 is in range.
+const MAX_JOINED: u32 = MAX_PRICE - 2;
 
 // A price on the tick of its product and size; none is on a tick of 0.
 pub fn is_on_tick(tick: u32, price: u32) -> bool
@@ -28,6 +33,30 @@ pub fn is_on_tick(tick: u32, price: u32) -> bool
     price % 2 + tick <= 2
 }
 
+// Prices joined, to be tested all at once: the bits of each less the tick.
+pub fn join(joined: u32, tick: u32, price: u32) -> u32
+    ensures now { IsJoined tick result price }
+    ensures still { (x : ℕ) → IsJoined tick joined x → IsJoined tick result x }
+{
+    joined | price.wrapping_sub(tick)
+}
+
+// Whether the joined prices are on a tick of 1 or 2. It only accepts: false says nothing.
+pub fn are_joined_on_tick(tick: u32, joined: u32) -> bool
+    ensures { result ≡ true → (x : ℕ) → IsJoined tick joined x → is_on_tick tick x ≡ true }
+{
+    if tick == 0 {
+        return false;
+    }
+    if 2 < tick {
+        return false;
+    }
+    if MAX_JOINED < joined {
+        return false;
+    }
+    joined % 2 + tick <= 2
+}
+
 // A settlement is on the standard tick.
 pub fn is_settlement(product: u32, settlement: u32) -> bool
     ensures { result ≡ is_settlement product settlement }
@@ -35,8 +64,18 @@ pub fn is_settlement(product: u32, settlement: u32) -> bool
     is_on_tick(tick(product, 0), settlement)
 }
 
-// It goes through to the end, so that the compiler can test several at a time.
-pub fn are_on_tick(tick: u32, prices: &[u32]) -> bool
+// A quick test that only accepts: false says nothing. It goes through to the end, so that the compiler can join several at a time.
+fn are_plain(tick: u32, prices: &[u32]) -> bool
+    ensures { result ≡ true → every (is_on_tick tick) prices.now ≡ true }
+{
+    let mut joined: u32 = 0;
+    for price in prices {
+        joined = join(joined, tick, *price);
+    }
+    are_joined_on_tick(tick, joined)
+}
+
+fn are_each_on_tick(tick: u32, prices: &[u32]) -> bool
     ensures { result ≡ every (is_on_tick tick) prices.now }
 {
     let mut all = true;
@@ -44,6 +83,20 @@ pub fn are_on_tick(tick: u32, prices: &[u32]) -> bool
         all &= is_on_tick(tick, *price);
     }
     all
+}
+
+pub fn are_on_tick(tick: u32, prices: &[u32]) -> bool
+    ensures { result ≡ every (is_on_tick tick) prices.now }
+{
+    // A full window has a length that the compiler knows.
+    if prices.len() == WINDOW_LENGTH {
+        if are_plain(tick, &prices[..WINDOW_LENGTH]) {
+            return true;
+        }
+    } else if are_plain(tick, prices) {
+        return true;
+    }
+    are_each_on_tick(tick, prices)
 }
 
 pub(crate) fn are_settlements(product: u32, settlements: &[u32]) -> bool

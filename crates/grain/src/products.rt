@@ -1,5 +1,5 @@
 // The product table. Its columns stand apart since they are those of the definitions; one function reads each.
-ghost use Rattle.std.specs.Prelude.{◌≡◌, ◌<◌};
+ghost use Rattle.std.specs.Prelude.{ℕ, ◌+◌, ◌/◌, ◌%◌, ◌^◌, ◌<◌, ◌≡◌, true};
 ghost use Rattle.grain.specs.Products.{product_count, is_product, step_of, floor_of, first_of, tick_of, is_traded, is_last_crop_month};
 
 // How many products there are.
@@ -86,6 +86,19 @@ pub fn is_traded(product: u32, month: u32) -> bool
         return false;
     }
     (MONTHS[product as usize] >> (month % 12)) % 2 == 1
+}
+
+// The months that the product trades in, from a contract month on: bit d is the month d after it. It only accepts: a bit that is not set
+// says nothing, and none is where there is no such product.
+pub fn traded_from(product: u32, month: u32) -> u64
+    ensures { (d : ℕ) → d < 48 → result / 2 ^ d % 2 ≡ 1 → is_traded product (month + d) ≡ true }
+{
+    if PRODUCTS <= product {
+        return 0;
+    }
+    // Five years from a January on, of which less than one is before the month.
+    let years = MONTHS[product as usize] as u64 * 0x1001001001001;
+    years >> (month % 12)
 }
 
 // Whether a contract month is the last of the product's crop year.

@@ -1,5 +1,5 @@
 // The tests that a sheet passes by itself, each over all its contracts.
-ghost use Rattle.std.specs.Prelude.{◌≡◌, leb};
+ghost use Rattle.std.specs.Prelude.{◌≡◌, true, leb};
 ghost use Rattle.grain.specs.Lists.{◌and◌, every, is_ascending};
 ghost use Rattle.grain.specs.Products.{is_traded};
 ghost use Rattle.grain.specs.Prices.{is_on_tick, is_settlement};
@@ -20,6 +20,39 @@ fn is_sound_contract(product: u32, tick: u32, from: u64, contract: &Contract) ->
         return false;
     }
     grain::is_on_tick(tick, contract.settlement)
+}
+
+// A quick test that only accepts: false says nothing, and the tests one by one decide. It has no division for each month, and tests all
+// settlements at once.
+fn are_plain(product: u32, contracts: &[Contract]) -> bool
+    ensures { result ≡ true → are_sound_contracts product contracts.now ≡ true }
+{
+    let Some(nearest) = contracts.first() else {
+        return true;
+    };
+    let tick = grain::tick(product, 0);
+    let first = nearest.month;
+    let traded = grain::traded_from(product, first);
+    // The least month that the next contract may have.
+    let mut from = first as u64;
+    let mut joined: u32 = 0;
+    for contract in contracts {
+        let month = contract.month as u64;
+        if month < from {
+            return false;
+        }
+        // Within 48 months the remainder is the number itself; whether all are, the last of them tells.
+        let after = (month - first as u64) % 64;
+        if (traded >> after) % 2 == 0 {
+            return false;
+        }
+        from = month + 1;
+        joined = grain::join(joined, tick, contract.settlement);
+    }
+    if first as u64 + 48 < from {
+        return false;
+    }
+    grain::are_joined_on_tick(tick, joined)
 }
 
 impl Sheet {
@@ -82,6 +115,14 @@ impl Sheet {
         }
         if MAX_CONTRACTS < self.count as usize {
             return false;
+        }
+        // A full sheet is most of them; of a known length the compiler tests it without a loop.
+        if self.count as usize == MAX_CONTRACTS {
+            if are_plain(product, &self.contracts) {
+                return true;
+            }
+        } else if are_plain(product, self.entries()) {
+            return true;
         }
         self.are_sound(product)
     }
