@@ -49,53 +49,36 @@ pub record Record : Type 0 where
 
 -- ---- the same with one part changed
 abbrev pub with_edition : ℕ → Common → Common
-with_edition e c = record { edition = e; opened = c.opened; is_open = c.is_open }
+with_edition e c = record c { edition = e }
 
 abbrev pub with_opened : Option Day → Common → Common
-with_opened o c = record { edition = c.edition; opened = o; is_open = c.is_open }
+with_opened o c = record c { opened = o }
 
 abbrev pub with_is_open : Bool → Common → Common
-with_is_open b c = record { edition = c.edition; opened = c.opened; is_open = b }
+with_is_open b c = record c { is_open = b }
 
 abbrev pub with_level : Level → Group → Group
-with_level l g = record { level = l; mark = g.mark; products = g.products }
+with_level l g = record g { level = l }
 
 abbrev pub with_mark : Bool → Group → Group
-with_mark b g = record { level = g.level; mark = b; products = g.products }
+with_mark b g = record g { mark = b }
 
 abbrev pub with_products : List Product → Group → Group
-with_products qs g = record { level = g.level; mark = g.mark; products = qs }
+with_products qs g = record g { products = qs }
 
 -- I and E
 abbrev pub with_limits : ℕ → ℕ → Product → Product
-with_limits i e q =
-    record { number = q.number; initial_limit = i; expanded_limit = e; window = q.window; today = q.today; last = q.last }
+with_limits i e q = record q { initial_limit = i; expanded_limit = e }
 
 abbrev pub with_window : List ℕ → Product → Product
-with_window w q =
-    record {
-      number = q.number;
-      initial_limit = q.initial_limit;
-      expanded_limit = q.expanded_limit;
-      window = w;
-      today = q.today;
-      last = q.last;
-    }
+with_window w q = record q { window = w }
 
 -- the sheet that is in today, and that of the last ended day
 abbrev pub with_sheets : Option Sheet → Option Sheet → Product → Product
-with_sheets today last q =
-    record {
-      number = q.number;
-      initial_limit = q.initial_limit;
-      expanded_limit = q.expanded_limit;
-      window = q.window;
-      today = today;
-      last = last;
-    }
+with_sheets today last q = record q { today = today; last = last }
 
 abbrev pub with_today : Option Sheet → Product → Product
-with_today s q = with_sheets s q.last q
+with_today s q = record q { today = s }
 
 -- ---- groups and products
 -- the products of each group: Corn; the Soybean Complex; Chicago and KC Wheat; Oats; Rough Rice

@@ -49,11 +49,11 @@ kind_of (Err r) = Refused
 
 -- one more asked, and one more of the kind
 abbrev pub one_more : Tally → Kind → Tally
-one_more t Free = record { asked = t.asked + 1; free = t.free + 1; within = t.within; below = t.below; above = t.above; refused = t.refused }
-one_more t Within = record { asked = t.asked + 1; free = t.free; within = t.within + 1; below = t.below; above = t.above; refused = t.refused }
-one_more t Below = record { asked = t.asked + 1; free = t.free; within = t.within; below = t.below + 1; above = t.above; refused = t.refused }
-one_more t Above = record { asked = t.asked + 1; free = t.free; within = t.within; below = t.below; above = t.above + 1; refused = t.refused }
-one_more t Refused = record { asked = t.asked + 1; free = t.free; within = t.within; below = t.below; above = t.above; refused = t.refused + 1 }
+one_more t Free = record t { asked = t.asked + 1; free = t.free + 1 }
+one_more t Within = record t { asked = t.asked + 1; within = t.within + 1 }
+one_more t Below = record t { asked = t.asked + 1; below = t.below + 1 }
+one_more t Above = record t { asked = t.asked + 1; above = t.above + 1 }
+one_more t Refused = record t { asked = t.asked + 1; refused = t.refused + 1 }
 
 -- a tally that refuses stays as it is
 unfoldable pub counted : Tally → Kind → Tally
