@@ -7,7 +7,7 @@ use std::fmt;
 use std::fmt::{Display, Formatter};
 
 #[derive(Clone, Copy, Debug, PartialEq, Eq)]
-pub enum Answer<'a> {
+pub(crate) enum Answer<'a> {
     Founded,
     Replied(Reply),
     Judged(Verdict),
@@ -16,7 +16,7 @@ pub enum Answer<'a> {
 
 // Why a line has no other answer.
 #[derive(Clone, Copy, Debug, PartialEq, Eq)]
-pub enum Failure {
+pub(crate) enum Failure {
     NotCall,
     NoBook,
     Refused(Refusal),

@@ -6,7 +6,7 @@ use record::Day;
 use std::alloc::Global;
 
 #[derive(Clone, Copy, Debug)]
-pub enum Line<'a> {
+pub(crate) enum Line<'a> {
     Found(Founding),
     Call(Call<'a>),
     Bare(BareCheck),
@@ -14,7 +14,7 @@ pub enum Line<'a> {
 }
 
 impl<'a> Line<'a> {
-    pub fn parse(sheet: &'a mut SheetNumbers, line: &[u8]) -> Result<Line<'a>, ParseError> {
+    pub(crate) fn parse(sheet: &'a mut SheetNumbers, line: &[u8]) -> Result<Line<'a>, ParseError> {
         match split_word(line) {
             (b"found", Some(words)) => Ok(Line::Found(Founding::parse(words)?)),
             (b"open", Some(words)) => Ok(Line::Call(Call::Open(day(words)?))),
@@ -30,7 +30,7 @@ impl<'a> Line<'a> {
 }
 
 #[derive(Clone, Copy, Debug, PartialEq, Eq)]
-pub struct Founding {
+pub(crate) struct Founding {
     pub edition: u32,
     pub limits: [u32; PRODUCT_COUNT],
 }
@@ -67,13 +67,13 @@ fn order(words: &[u8]) -> Result<Order, ParseError> {
 
 // The numbers of a sheet: its line lends them to the call, and the next one's take their place.
 #[derive(Drop)]
-pub struct SheetNumbers {
+pub(crate) struct SheetNumbers {
     months: Vec<u32>,
     settlements: Vec<u32>,
 }
 
 impl SheetNumbers {
-    pub fn new(alloc: Global) -> SheetNumbers {
+    pub(crate) fn new(alloc: Global) -> SheetNumbers {
         SheetNumbers {
             months: Vec::new(alloc),
             settlements: Vec::new(alloc),
@@ -109,7 +109,7 @@ impl SheetNumbers {
 }
 
 #[derive(Clone, Copy, Debug, PartialEq, Eq)]
-pub struct BareCheck {
+pub(crate) struct BareCheck {
     pub product: u32,
     pub size: u32,
     pub settlement: u32,

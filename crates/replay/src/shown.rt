@@ -9,7 +9,7 @@ mod whole;
 
 // A value of another crate, which gives it no text.
 #[derive(Clone, Copy)]
-pub struct Shown<'a, T>(pub &'a T);
+pub(crate) struct Shown<'a, T>(pub(crate) &'a T);
 
 impl Display for Shown<'_, Span> {
     fn fmt<W: fmt::Write>(&self, f: &mut Formatter<W>) -> fmt::Result {

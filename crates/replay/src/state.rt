@@ -4,7 +4,7 @@ use crate::call::Line;
 use book::Book;
 
 #[derive(Debug, Default, Drop, PartialEq, Eq)]
-pub struct State {
+pub(crate) struct State {
     // None before a founding.
     book: Option<Book>,
 }
@@ -18,7 +18,7 @@ impl State {
         self.book.as_mut().ok_or(Failure::NoBook)
     }
 
-    pub fn answer(&mut self, line: Line<'_>) -> Result<Answer<'_>, Failure> {
+    pub(crate) fn answer(&mut self, line: Line<'_>) -> Result<Answer<'_>, Failure> {
         match line {
             Line::Found(f) => {
                 self.book = Some(book::found(f.edition, f.limits)?);

@@ -4,7 +4,7 @@ use std::alloc::{AllocError, AllocFailed};
 
 // Why a line gives no call.
 #[derive(Clone, Copy, Debug, PartialEq, Eq)]
-pub enum ParseError {
+pub(crate) enum ParseError {
     NotCall,
     OutOfMemory(AllocError),
 }
@@ -16,7 +16,7 @@ impl From<AllocFailed<u32>> for ParseError {
 }
 
 // The first word, and the words after it where there is a space.
-pub fn split_word(words: &[u8]) -> (&[u8], Option<&[u8]>) {
+pub(crate) fn split_word(words: &[u8]) -> (&[u8], Option<&[u8]>) {
     match words.iter().position(|b| *b == b' ') {
         Some(end) => (&words[..end], Some(&words[end + 1..])),
         None => (words, None),
@@ -31,7 +31,7 @@ fn with_digit(n: u32, b: u8) -> Option<u32> {
 }
 
 // Digits alone, of a number that fits 32 bits.
-pub fn number(word: &[u8]) -> Result<u32, ParseError> {
+pub(crate) fn number(word: &[u8]) -> Result<u32, ParseError> {
     if word.is_empty() {
         return Err(ParseError::NotCall);
     }
@@ -41,7 +41,7 @@ pub fn number(word: &[u8]) -> Result<u32, ParseError> {
 }
 
 // So many numbers, and no word more.
-pub fn numbers<const N: usize>(words: &[u8]) -> Result<[u32; N], ParseError> {
+pub(crate) fn numbers<const N: usize>(words: &[u8]) -> Result<[u32; N], ParseError> {
     let mut all = [0; N];
     let mut rest = Some(words);
     for n in &mut all {
