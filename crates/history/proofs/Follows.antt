@@ -1,10 +1,9 @@
 -- A list of calls follows the Record: its answers and the book that it leaves are the Record's.
 use Rattle.std.proofs.Common.{◌≡◌, refl, List, ◌∷◌}
-use Rattle.record.specs.Record.{Change, Call, change, Answer, respond, state_after, answers}
+use Rattle.record.specs.Record.{Call, Answer, respond, state_after, answers}
 use Rattle.book.specs.declared.Book.{Book}
 use Rattle.book.specs.Book.{view}
-use Rattle.book.specs.Calls.{Responds}
-use Rattle.history.specs.Step.{Step, opens, files, ends, converts, checks}
+use Rattle.history.specs.Step.{Step, changes, asks}
 use Rattle.history.specs.Trace.{Trace, done, more}
 use Rattle.history.proofs.Shows.{list_shows}
 
@@ -13,16 +12,10 @@ record Stepped (b : Book) (c : Call) (a : Answer) (y : Book) : Type 0 where
   answer : a ≡ (respond (view b) c).answer
   state : view y ≡ (respond (view b) c).state
 
-changed : {b y : Book} {c : Change} {a : Answer} → Responds b c a y → Stepped b (change c) a y
-changed r = record { answer = r.answer; state = r.state }
-
 stepped : {b y : Book} {c : Call} {a : Answer} → Step b c a y → Stepped b c a y
 unfolding respond
-stepped (opens r s) = changed s
-stepped (files r s) = changed s
-stepped (ends r s) = changed s
-stepped (converts r s) = changed s.responds
-stepped (checks r s) = record { answer = s; state = refl }
+stepped (changes r) = record { answer = r.answer; state = r.state }
+stepped (asks e) = record { answer = e; state = refl }
 
 -- a list
 more_answered : {b y : Book} {c : Call} {a : Answer} (cs : List Call) {rs : List Answer}

@@ -17,7 +17,7 @@ use Rattle.record.specs.Theorems.{after, history_of, is_refusal, has_raised, is_
 use Rattle.record.proofs.Proved.{theorems}
 use Rattle.book.specs.declared.Book.{Book}
 use Rattle.book.specs.Book.{view}
-use Rattle.checking.specs.Checks.{checked_as, Checks}
+use Rattle.checking.specs.Checks.{checked_as, book_answer, Checks}
 use Rattle.history.specs.Whole.{Run, WholeHistory}
 use Rattle.history.proofs.Agrees as agrees
 use Rattle.history.proofs.Follows.{answered, contents}
@@ -87,11 +87,13 @@ module _ (s : Start) (g : ℕ) (cs ds : List Call) (rs ts : List Answer) (y z : 
   same_group : group_at (view y) g ≡ group_at (view z) g
   same_group = agrees.same_group s g cs ds y z (contents_are s cs rs y one) (contents_are s ds ts z other) histories
 
+  same_answers : (p size month price : ℕ) → group_of p ≡ g → book_answer y p size month price ≡ book_answer z p size month price
+  same_answers p size month price e =
+      agrees.same_checks s g cs ds y z (contents_are s cs rs y one) (contents_are s ds ts z other) histories (is_founded s cs rs y one) p size month price e
+
   same_checks : (p size month price : ℕ) (v w : Result Verdict Refusal) → group_of p ≡ g
       → Checks y p size month price v → Checks z p size month price w → v ≡ w
-  same_checks p size month price v w e h k =
-      let both = agrees.same_checks s g cs ds y z (contents_are s cs rs y one) (contents_are s ds ts z other) histories (is_founded s cs rs y one) p size month price e in
-      checked_same v w (h ∙ both ∙ sym k)
+  same_checks p size month price v w e h k = checked_same v w (h ∙ same_answers p size month price e ∙ sym k)
 
 pub whole_history : WholeHistory
 whole_history =
@@ -110,5 +112,6 @@ whole_history =
       stays_free = stays_free;
       same_day = same_day;
       same_group = same_group;
+      same_answers = same_answers;
       same_checks = same_checks;
     }

@@ -18,7 +18,7 @@ use Rattle.sheets.specs.Sheets.{sheet_in}
 use Rattle.book.specs.declared.Book.{Book}
 use Rattle.book.specs.Book.{is_set, opened_in, limit_in, window_of, standing_in, today_in, last_in, level_of, view}
 use Rattle.book.specs.Founding.{Founds}
-use Rattle.checking.specs.Checks.{Checks}
+use Rattle.checking.specs.Checks.{book_answer, Checks}
 use Rattle.history.specs.Step.{Step}
 use Rattle.history.specs.Trace.{Trace}
 
@@ -89,7 +89,12 @@ pub record WholeHistory : Type 0 where
   pub same_group :
       (s : Start) (g : ℕ) (cs ds : List Call) (rs ts : List Answer) (y z : Book)
       → Run s cs rs y → Run s ds ts z → SameFor g (kept cs rs) (kept ds ts) → group_at (view y) g ≡ group_at (view z) g
-  -- and any price check on it gets the same answer or refusal number
+  -- any price check on it is answered the same, with the same refusal number where it is refused
+  pub same_answers :
+      (s : Start) (g : ℕ) (cs ds : List Call) (rs ts : List Answer) (y z : Book)
+      → Run s cs rs y → Run s ds ts z → SameFor g (kept cs rs) (kept ds ts)
+      → (p size month price : ℕ) → group_of p ≡ g → book_answer y p size month price ≡ book_answer z p size month price
+  -- and so has the same result
   pub same_checks :
       (s : Start) (g : ℕ) (cs ds : List Call) (rs ts : List Answer) (y z : Book)
       → Run s cs rs y → Run s ds ts z → SameFor g (kept cs rs) (kept ds ts)

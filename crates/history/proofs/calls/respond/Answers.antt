@@ -5,30 +5,30 @@ use Rattle.ending.specs.Ends.{ended_as}
 use Rattle.converting.specs.Converts.{converted_as}
 use Rattle.checking.specs.Checks.{checked_as}
 use Rattle.history.specs.Calls.{told}
-use Rattle.history.specs.Step.{opens, files, ends, converts, checks}
+use Rattle.history.specs.Step.{changes, asks}
 use Rattle.history.proofs.calls.respond.Goals as goal
 
 pub returns-in-Open : goal.returns-in-Open
 returns-in-Open c =
     let same : told c.map.result ≡ opened_as c.opening.result = search rules in
-    rw (c.in-Open.is, same) (opens _ c.opening.ensures)
+    rw (c.in-Open.is, same) (changes c.opening.ensures)
 
 pub returns-in-Sheet : goal.returns-in-Sheet
 returns-in-Sheet c =
     let same : told c.map-in-Sheet.result ≡ filed_as c.sheet-filed.result = search rules in
-    rw (c.in-Sheet.is, same) (files _ c.sheet-filed.ensures)
+    rw (c.in-Sheet.is, same) (changes c.sheet-filed.ensures)
 
 pub returns-in-End : goal.returns-in-End
 returns-in-End c =
     let same : told c.map-in-End.result ≡ ended_as c.end.result = search rules in
-    rw (c.in-End.is, same) (ends _ c.end.ensures)
+    rw (c.in-End.is, same) (changes c.end.ensures)
 
 pub returns-in-Convert : goal.returns-in-Convert
 returns-in-Convert c =
     let same : told c.map-in-Convert.result ≡ converted_as c.convert.result = search rules in
-    rw (c.in-Convert.is, same) (converts _ c.convert.ensures)
+    rw (c.in-Convert.is, same) (changes c.convert.ensures.responds)
 
 pub returns-in-Check : goal.returns-in-Check
 returns-in-Check c =
     let same : told c.map-in-Check.result ≡ checked_as c.check-checked.result = search rules in
-    rw (c.in-Check.is, same) (checks _ c.check-checked.ensures)
+    rw (c.in-Check.is, same) (asks c.check-checked.ensures)
