@@ -6,4 +6,3 @@ pub mod Zeros
 pub mod TallyWords
 pub mod NotFull
 pub mod Proved
-pub mod Ties

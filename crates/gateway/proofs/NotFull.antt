@@ -13,9 +13,10 @@ use Rattle.grain.specs.declared.check.Verdict.{Verdict}
 use Rattle.grain.specs.declared.refusals.Refusal.TheVariants.{NoSuchProduct, BadPrice, UnfitAmount}
 use Rattle.grain.specs.declared.check.Verdict.TheVariants.{Free, Within, Below, Above}
 use Rattle.tally.specs.Tally.{tally_full}
+use Rattle.checking.specs.Checks.{book_answer}
 use Rattle.tallying.proofs.BookAnswers.{book-counted}
 use Rattle.gateway.specs.declared.image.Image.{Image}
-use Rattle.gateway.specs.Calls.{image_answer, image_check}
+use Rattle.gateway.specs.Calls.{image_check}
 use Rattle.gateway.proofs.Numbers.{number_of}
 
 pub bare_not_full : (product size settlement amount spot price : ℕ) → eqb (bare_check product size settlement amount spot price) tally_full ≡ false
@@ -35,4 +36,4 @@ bare_not_full product size settlement amount spot price =
 
 pub image_not_full : (i : Image) (p size month price : ℕ) → eqb (image_check i p size month price) tally_full ≡ false
 image_not_full i p size month price =
-    number_of tally_full (omega arith) (omega arith) (image_answer i p size month price) ∙ book-counted i.book p size month price
+    number_of tally_full (omega arith) (omega arith) (book_answer i.book p size month price) ∙ book-counted i.book p size month price

@@ -1,8 +1,7 @@
 -- What each call on a book by pointer promises, whatever struct is lent: what the Record answers and does to the book in it.
 use Rattle.std.specs.Prelude.{ℕ, ◌≡◌, List, map, replicate, Some, None, unwrap_or, Result, Ok, Err}
 use Rattle.grain.specs.Products.{product_count}
-use Rattle.grain.specs.Check.{span_in}
-use Rattle.grain.specs.Check.{verdict_number}
+use Rattle.grain.specs.Check.{span_in, verdict_number}
 use Rattle.grain.specs.Bare.{no_span, span_or}
 use Rattle.grain.specs.Refusals.{number_of}
 use Rattle.grain.specs.declared.check.Span.{Span}
@@ -11,10 +10,11 @@ use Rattle.record.specs.declared.Event.{Event}
 use Rattle.record.specs.declared.Event.TheVariants.{Quiet, Triggered, Held, Reverted, Raised}
 use Rattle.record.specs.State.{group_count}
 use Rattle.record.specs.Founding.{Start, founding_refusal, founded}
-use Rattle.record.specs.Record.{Change, convert, check, Call, change, question, opened, ended, checked, Answer, refused, accepted, refusal, respond}
+use Rattle.record.specs.Record.{Change, convert, Call, change, opened, ended, checked, Answer, refused, accepted, refusal, respond}
 use Rattle.book.specs.declared.Book.{Book}
 use Rattle.book.specs.Book.{flag_word, view}
 use Rattle.converting.specs.Converts.{with_2023}
+use Rattle.checking.specs.Checks.{book_answer}
 use Rattle.gateway.specs.declared.image.EventWords.{EventWords}
 use Rattle.gateway.specs.declared.image.Image.{Image}
 use Rattle.gateway.specs.declared.spans.Spanned.{Spanned}
@@ -66,13 +66,9 @@ pub record ConvertsImage (i : Image) (n : ℕ) (now : Image) : Type 0 where
   pub book : refusal (view i.book) (change convert) ≡ None → now.book ≡ with_2023 i.book
   pub same : i.book.edition ≡ 2023 → now ≡ i
 
--- what the Record of the book answers to a check
-abbrev pub image_answer : Image → ℕ → ℕ → ℕ → ℕ → Answer
-image_answer i p size month price = answer_to i (question (check p size month price))
-
 -- the number that a check returns, which is lent the struct to read only
 abbrev pub image_check : Image → ℕ → ℕ → ℕ → ℕ → ℕ
-image_check i p size month price = answer_number (image_answer i p size month price)
+image_check i p size month price = answer_number (book_answer i.book p size month price)
 
 -- the span of an answer, two zeros where it has none
 abbrev pub answer_span : Answer → Span
@@ -84,7 +80,7 @@ with_span a = record { answer = answer_number a; lowest = (answer_span a).lowest
 
 -- what a check with its span returns
 abbrev pub image_span : Image → ℕ → ℕ → ℕ → ℕ → Spanned
-image_span i p size month price = with_span (image_answer i p size month price)
+image_span i p size month price = with_span (book_answer i.book p size month price)
 
 abbrev pub no_renewed : List ℕ
 no_renewed = replicate product_count 0

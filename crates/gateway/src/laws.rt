@@ -1,10 +1,10 @@
 // What is proved of whole lists of calls from C: each theorem is the contract of an empty function, so that the crate is refused without its proof.
-ghost use Rattle.gateway.specs.Images.{WholeImages, ZeroAccepts, NoImage};
+ghost use Rattle.gateway.specs.Images.{ImagesAsBooks, ZeroAccepts, NoImage};
 ghost use Rattle.gateway.specs.Through.{BareThroughOneTally, ImagesThroughOneTally};
 
-#[tactic(auto, using(crate::proofs::Imaged::whole_images))]
-pub fn whole_images()
-    ensures { WholeImages }
+#[tactic(auto, using(crate::proofs::Imaged::images_as_books))]
+pub fn images_as_books()
+    ensures { ImagesAsBooks }
 {}
 
 #[tactic(auto, using(crate::proofs::Zeros::zero_accepts))]

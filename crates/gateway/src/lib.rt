@@ -1,5 +1,5 @@
 // What C programs call: the bare check, the calls on a book, the span of either check, and either check through a tally. include/botskhela.h says what the
-// arguments and answers are. No function here has a `requires`; a book is the words of its image, lent by reference.
+// arguments and answers are. No function here has a `requires`; a book is the struct that C keeps, lent by reference.
 #![tactic(auto)]
 
 ghost use Rattle.std.specs.Prelude.{◌≡◌};
@@ -8,6 +8,7 @@ ghost use Rattle.grain.specs.Bare.{bare_check};
 mod calls;
 mod image;
 mod laws;
+mod lists;
 mod spans;
 mod tallied;
 
@@ -17,8 +18,9 @@ pub use calls::{
 };
 pub use image::{EventWords, Image};
 pub use laws::{
-    bare_through_one_tally, images_through_one_tally, no_image, whole_images, zero_accepts,
+    bare_through_one_tally, images_as_books, images_through_one_tally, no_image, zero_accepts,
 };
+pub use lists::respond;
 pub use spans::{Spanned, botskhela_bare_highest, botskhela_bare_lowest, botskhela_check_span};
 pub use tallied::{botskhela_tallied_book_check, botskhela_tallied_check};
 
