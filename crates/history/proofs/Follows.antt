@@ -5,7 +5,6 @@ use Rattle.book.specs.declared.Book.{Book}
 use Rattle.book.specs.Book.{view}
 use Rattle.history.specs.Step.{Step, changes, asks}
 use Rattle.history.specs.Trace.{Trace, done, more}
-use Rattle.history.proofs.Shows.{list_shows}
 
 -- one call
 record Stepped (b : Book) (c : Call) (a : Answer) (y : Book) : Type 0 where
@@ -29,4 +28,6 @@ answered done = refl
 answered (more s t) = more_answered _ (stepped s) (answered t)
 
 pub contents : {b z : Book} {cs : List Call} {rs : List Answer} → Trace Step b cs rs z → view z ≡ state_after (view b) cs
-contents = list_shows Step view (λ b y c a s. (stepped s).state)
+unfolding state_after
+contents done = refl
+contents (more s t) = rw (← (stepped s).state) (contents t)

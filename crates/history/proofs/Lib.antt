@@ -1,4 +1,3 @@
-pub mod Shows
 pub mod Traces
 pub mod Agrees
 pub mod Follows

@@ -1,8 +1,7 @@
 // The calls on a book as values: one function makes any of them, and one makes a list of them.
-ghost use Rattle.std.specs.Prelude.{◌≡◌, map, length, take, drop};
 ghost use Rattle.history.specs.Calls.{call_as, told};
 ghost use Rattle.history.specs.Step.{Step};
-ghost use Rattle.history.specs.Trace.{Trace};
+ghost use Rattle.history.specs.Runs.{Runs};
 
 use book::Book;
 use grain::{PRODUCT_COUNT, Refusal, Verdict};
@@ -65,10 +64,9 @@ pub fn respond(b: &mut Book, call: Call<'_>) -> Result<Reply, Refusal>
 }
 
 // Makes calls in order, as long as there is a place for what the next is answered: of a list that has as many places all are made, however
-// many they are, as no memory can give out. Places beyond the list stay as they are.
+// many they are, as no memory can give out.
 pub fn run(b: &mut Book, calls: &[Call<'_>], replies: &mut [Result<Reply, Refusal>])
-    ensures made { Trace Step b.old (map call_as (take (length replies.old) calls.now)) (map told (take (length calls.now) replies.new)) b.new }
-    ensures rest { drop (length calls.now) replies.new ≡ drop (length calls.now) replies.old }
+    ensures { Runs b.old calls.now replies.old replies.new b.new }
 {
     for i in 0..calls.len().min(replies.len()) {
         replies[i] = respond(b, calls[i]);
