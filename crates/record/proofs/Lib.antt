@@ -31,6 +31,7 @@ pub mod SeasonCases
 pub mod SeasonStartCases
 pub mod WindowCases
 pub mod CheckCases
+pub mod CoupledCases
 pub mod RefusalCases
 pub mod SameHistoryCases
 pub mod SoundCases
