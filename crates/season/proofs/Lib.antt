@@ -4,4 +4,5 @@ pub mod Shape
 pub mod Limits
 pub mod Decimals
 pub mod LineCases
+pub mod OrderCases
 pub mod Reading
