@@ -19,6 +19,7 @@ pub mod Scans
 pub mod Spanned
 pub mod Spots
 pub mod SpanCases
+pub mod SpotCases
 pub mod Sums
 pub mod Tests
 pub mod ValidDates
