@@ -18,6 +18,7 @@ use file::FILE_BYTES;
 use text::Line;
 
 // What is written for a file, to the byte.
+// The result may also be an error of memory, which no contract can exclude: `IfOk` speaks of the text where there is one.
 fn answer_to(alloc: Global, file: &[u8]) -> Result<String, AllocError>
     ensures { IfOk result (λ text. string_bytes text ≡ line_text (season_line file.now)) }
 {
