@@ -1,6 +1,6 @@
 -- The search for the leading contract: the next month, and whether a product's contract of a month meets the condition.
 -- For the functions inside: what the search promises is in Lead.antt alone. All of it is of any sheet, also one of a damaged count.
-use Rattle.std.specs.Prelude.{ℕ, ◌<◌, ◌≤◌, ◌≡◌, min, Bool, true, false, not, ◌&&◌, cond, List, map, leb, ltb, eqb, sum_by, take, count_by, Option, Some, None}
+use Rattle.std.specs.Prelude.{ℕ, min, Bool, true, false, not, ◌&&◌, cond, List, map, leb, ltb, eqb, sum_by, take, count_by, Option, Some, None}
 use Rattle.std.specs.List.{filter, filter_map, reduce}
 use Rattle.grain.specs.Lists.{distance}
 use Rattle.grain.specs.Products.{first_of, is_last_crop_month}
@@ -80,8 +80,3 @@ module _ (date : TradeDate) (p : ℕ) (limit : Limit) (today last : List Contrac
 
 abbrev pub is_met : Condition → TradeDate → Book → ℕ → ℕ → Bool
 is_met condition date b m p = is_met_by date p (limit_in b p) (entries_of (today_in b p)) (entries_of (last_in b p)) condition m
-
--- the first of the numbers lo to hi, hi not among them, that passes the test f
-abbrev pub FirstMet : (ℕ → Bool) → ℕ → ℕ → Option ℕ → Type 0
-FirstMet f lo hi None = (q : ℕ) → lo ≤ q → q < hi → f q ≡ false
-FirstMet f lo hi (Some p) = (lo ≤ p) × (p < hi) × (f p ≡ true) × ((q : ℕ) → lo ≤ q → q < p → f q ≡ false)

@@ -1,9 +1,10 @@
 // The leading contract of a group: of those that meet an event's condition, the nearest month, then the lowest product number.
-ghost use Rattle.std.specs.Prelude.{◌≡◌, ◌+◌, slice_range};
+ghost use Rattle.std.specs.Prelude.{◌≡◌, ◌<◌, ◌+◌, slice_range};
+ghost use Rattle.grain.specs.Products.{product_count};
+ghost use Rattle.book.specs.Book.{limit_in, today_in, last_in};
 ghost use Rattle.book.specs.Numbers.{products_before};
 ghost use Rattle.ending.specs.Lead.{lead_for};
 ghost use Rattle.ending.specs.Moves.{moves_in};
-ghost use Rattle.ending.specs.Search.{is_met, FirstMet};
 
 use crate::moves::{GroupMoves, ProductMoves};
 pub(crate) use condition::Condition;
@@ -31,45 +32,45 @@ impl GroupMoves<'_> {
         &self.day.book.today[self.numbers()]
     }
 
-    // The first product of the group whose contract of a month meets the condition.
-    #[tactic(auto, using(book::proofs::ProductsBefore::before_small))]
-    fn first_met(&self, condition: Condition, month: u32) -> Option<u32>
-        ensures { FirstMet (is_met condition self.now.day.date self.now.day.book.now month) (products_before self.now.group) (products_before (self.now.group + 1)) result }
+    // Of one product, by its number.
+    fn of_product(&self, p: usize) -> ProductMoves<'_>
+        requires { p < product_count }
+        ensures { (result.product ≡ p) × (result.limit ≡ limit_in self.now.day.book.now p) × (result.today.now ≡ today_in self.now.day.book.now p) × (result.last.now ≡ last_in self.now.day.book.now p) × (result.date ≡ self.now.day.date) }
     {
         let book = self.day.book;
-        // By number, which the lead names.
-        for p in self.numbers() {
-            let product = p as u32;
-            let moves = ProductMoves {
-                product,
-                limit: book.limits[p],
-                today: &book.today[p],
-                last: &book.last[p],
-                date: self.day.date,
-            };
-            if moves.meet(condition, month) {
-                return Some(product);
-            }
+        ProductMoves {
+            product: p as u32,
+            limit: book.limits[p],
+            today: &book.today[p],
+            last: &book.last[p],
+            date: self.day.date,
         }
-        None
     }
 
+    #[tactic(auto, using(book::proofs::ProductsBefore::before_small))]
     pub(crate) fn leading(&self, condition: Condition) -> Option<Lead>
         ensures { result ≡ lead_for condition (moves_in self.now) }
     {
         let sheets = self.sheets();
         // In the date's month every contract is spot.
         let mut month = self.day.date.month;
-        // Each turn starts from the month that the one before found.
-        while let Some(next) = next_month(sheets, month) {
-            if let Some(product) = self.first_met(condition, next) {
-                return Some(Lead {
-                    month: next,
-                    product,
-                });
+        // Left by label at the leading contract, where the search stops: the nearest month, then the lowest product number.
+        'months: loop {
+            let Some(next) = next_month(sheets, month) else {
+                break None;
+            };
+            // By number, which the lead names.
+            for p in self.numbers() {
+                let moves = self.of_product(p);
+                if moves.meet(condition, next) {
+                    break 'months Some(Lead {
+                        month: next,
+                        product: moves.product,
+                    });
+                }
             }
+            // Each turn starts from the month that the one before found.
             month = next;
         }
-        None
     }
 }
