@@ -1,5 +1,6 @@
 -- What holds of every list of checks through one tally, bare ones and those on books.
 use mathlib.Core.Path.{refl}
+use Rattle.std.proofs.lemmas.Iterator.Adapters.{option_map_id}
 use Rattle.tally.specs.Through.{tallied_answer, tally_after}
 use Rattle.tally.proofs.Totals.{Lawful}
 use Rattle.tally.proofs.Proved.{through_one_tally}
@@ -10,7 +11,7 @@ bare_lawful : Lawful bare_checks
 unfolding tallied_answer tally_after
 bare_lawful =
     record {
-      answers = λ t o r u p. p.answer;
+      answers = λ t o r u p. rw option_map_id p.answer;
       tally = λ t o r u p. p.tally;
       not_full = λ o. bare_not_full o.product o.size o.settlement o.amount o.spot o.price;
       says_full = refl;
@@ -23,7 +24,7 @@ images_lawful : Lawful image_checks
 unfolding tallied_answer tally_after
 images_lawful =
     record {
-      answers = λ t o r u p. p.answer;
+      answers = λ t o r u p. rw option_map_id p.answer;
       tally = λ t o r u p. p.tally;
       not_full = λ o. image_not_full o.image o.product o.size o.month o.price;
       says_full = refl;

@@ -1,11 +1,11 @@
 -- A check through a tally, the bare one and that on a book: what it promises, whatever the tally, the struct and the numbers.
-use Rattle.std.specs.Prelude.{ℕ, ◌≡◌, cond, eqb}
+use Rattle.std.specs.Prelude.{ℕ, ◌≡◌, cond, eqb, unwrap_or}
 use Rattle.grain.specs.Check.{free, within, below, above}
 use Rattle.grain.specs.Bare.{bare_check}
 use Rattle.tally.specs.declared.Tally.{Tally}
 use Rattle.tally.specs.declared.kinds.Kind.{Kind}
 use Rattle.tally.specs.declared.kinds.Kind.TheVariants.{Free, Within, Below, Above, Refused}
-use Rattle.tally.specs.Tally.{tally_refusal, takes, counted}
+use Rattle.tally.specs.Tally.{tally_refusal, counted}
 use Rattle.gateway.specs.declared.image.Image.{Image}
 use Rattle.gateway.specs.Calls.{image_check}
 
@@ -16,7 +16,7 @@ kind_of_number n =
 
 -- a check that alone returns n: 1 and 15 are the tally's own; every other answer is the check's, and is counted
 pub record Tallies (n : ℕ) (t : Tally) (r : ℕ) (after : Tally) : Type 0 where
-  pub answer : r ≡ cond (takes t) n (tally_refusal t)
+  pub answer : r ≡ unwrap_or (tally_refusal t) n
   pub tally : after ≡ counted t (kind_of_number n)
 
 abbrev pub TalliesBare : Tally → ℕ → ℕ → ℕ → ℕ → ℕ → ℕ → ℕ → Tally → Type 0

@@ -1,35 +1,30 @@
 -- What a check through a tally says, told of the answers of a call that returns them in its own way.
-use Rattle.std.proofs.Common.{◌≡◌, refl, sym, ◌∙◌, ap, ℕ, Bool, true, false, cond, Result, Ok, Err}
+use Rattle.std.proofs.Common.{◌≡◌, sym, ◌∙◌, ap, ℕ, Option, Some, None, Result, Ok, Err}
+use Rattle.std.specs.Prelude.{MatchOption, unwrap_or}
+use Rattle.std.specs.Option.{option_map}
 use Rattle.grain.specs.declared.check.Verdict.{Verdict}
 use Rattle.grain.specs.declared.refusals.Refusal.{Refusal}
 use Rattle.grain.specs.Refusals.{number_of}
 use Rattle.tally.specs.declared.Tally.{Tally}
 use Rattle.tally.specs.declared.kinds.Kind.{Kind}
-use Rattle.tally.specs.Tally.{kind_of, tally_refusal, takes, one_more, counted, IsRefusedWith}
+use Rattle.tally.specs.Tally.{kind_of, tally_refusal, counted, IsRefusedWith}
 
 -- shown is how the call returns a check's result, refused a refusal's number, and counted_as what its answers are counted as
-module _ {A : Type 0} (shown : Result Verdict Refusal → A) (refused : ℕ → A) (refuses : (r : Refusal) → shown (Err r) ≡ refused (number_of r))
-    (counted_as : A → Kind) (same_kind : (r : Result Verdict Refusal) → counted_as (shown r) ≡ kind_of r) where
-  refused_with : (n : ℕ) (r : Result Verdict Refusal) → IsRefusedWith n r → shown r ≡ refused n
-  refused_with n (Ok v) h = absurd h
-  refused_with n (Err r) h = refuses r ∙ ap refused h
+module _ {A : Type 0} (shown : Result Verdict Refusal → A) where
+  module _ (refused : ℕ → A) (refuses : (r : Refusal) → shown (Err r) ≡ refused (number_of r)) where
+    refused_with : (n : ℕ) (r : Result Verdict Refusal) → IsRefusedWith n r → shown r ≡ refused n
+    refused_with n (Ok v) h = absurd h
+    refused_with n (Err r) h = refuses r ∙ ap refused h
 
-  -- a is the answer without a tally; t and u are the tally before and after
-  module _ (t u : Tally) (r : Result Verdict Refusal) (a : A) (taken : takes t ≡ true → (shown r ≡ a) × (u ≡ counted t (kind_of r)))
-      (turned : takes t ≡ false → IsRefusedWith (tally_refusal t) r × (u ≡ t)) where
-    pub answered : shown r ≡ cond (takes t) a (refused (tally_refusal t))
-    answered = go (takes t) taken turned
+    -- p is the check's result without a tally, shown as a, and r the result through the tally t
+    pub answered : (t : Tally) (p r : Result Verdict Refusal) (a : A) → shown p ≡ a
+        → MatchOption (tally_refusal t) (r ≡ p) (λ n. IsRefusedWith n r) → shown r ≡ unwrap_or (option_map refused (tally_refusal t)) a
+    answered t p r a is h = go (tally_refusal t) h
       where
-        go : (x : Bool) → (x ≡ true → (shown r ≡ a) × (u ≡ counted t (kind_of r))) → (x ≡ false → IsRefusedWith (tally_refusal t) r × (u ≡ t))
-            → shown r ≡ cond x a (refused (tally_refusal t))
-        go true h k = (h refl).0
-        go false h k = refused_with (tally_refusal t) r (k refl).0
+        go : (o : Option ℕ) → MatchOption o (r ≡ p) (λ n. IsRefusedWith n r) → shown r ≡ unwrap_or (option_map refused o) a
+        go None e = ap shown e ∙ is
+        go (Some n) e = refused_with n r e
 
-    pub tallied : u ≡ counted t (counted_as a)
-    unfolding counted
-    tallied = go (takes t) refl taken turned
-      where
-        go : (x : Bool) → takes t ≡ x → (x ≡ true → (shown r ≡ a) × (u ≡ counted t (kind_of r)))
-            → (x ≡ false → IsRefusedWith (tally_refusal t) r × (u ≡ t)) → u ≡ cond (takes t) (one_more t (counted_as a)) t
-        go true e h k = (h refl).1 ∙ ap (λ (d : Kind). cond (takes t) (one_more t d) t) (sym (same_kind r) ∙ ap counted_as (h refl).0)
-        go false e h k = rw e (k refl).1
+  pub tallied : (counted_as : A → Kind) → ((r : Result Verdict Refusal) → counted_as (shown r) ≡ kind_of r) → (t u : Tally)
+      (p : Result Verdict Refusal) (a : A) → shown p ≡ a → u ≡ counted t (kind_of p) → u ≡ counted t (counted_as a)
+  tallied counted_as same_kind t u p a is h = h ∙ ap (counted t) (sym (same_kind p) ∙ ap counted_as is)

@@ -4,7 +4,7 @@ use mathlib.Core.Path.{◌≡◌, refl, sym, ap, ◌∙◌}
 use mathlib.Core.Bool.{Bool, true, false}
 use mathlib.Core.List.{List, map}
 use native.Mathlib.Omega.{arith}
-use borrow.Author.Tests.{ne_eqb}
+use Rattle.std.specs.Prelude.{Some}
 use Rattle.grain.specs.Refusals.{unsound}
 use Rattle.tally.specs.declared.Tally.{Tally}
 use Rattle.tally.specs.Tally.{tally_full, is_sound_tally, is_full, tally_refusal, counted}
@@ -14,11 +14,11 @@ use Rattle.tally.proofs.Totals.{Lawful, totals}
 from_zero : (k m : ℕ) → k ≡ 0 + m → k ≡ m
 from_zero k m e = omega arith
 
-unsound_refuses : (t : Tally) → is_sound_tally t ≡ false → tally_refusal t ≡ unsound
+unsound_refuses : (t : Tally) → is_sound_tally t ≡ false → tally_refusal t ≡ Some unsound
 unfolding tally_refusal
 unsound_refuses t e = rw e
 
-full_refuses : (t : Tally) → is_sound_tally t ≡ true → is_full t ≡ true → tally_refusal t ≡ tally_full
+full_refuses : (t : Tally) → is_sound_tally t ≡ true → is_full t ≡ true → tally_refusal t ≡ Some tally_full
 unfolding tally_refusal
 full_refuses t e f = rw (e, f)
 
@@ -47,19 +47,19 @@ module _ (k : TalliedCall) (law : Lawful k) where
       }
 
   -- a tally that refuses with a number
-  refusing : (n : ℕ) → (n ≡ 0 → ⊥) → {t z : Tally} {cs : List k.Ask} {rs : List k.Answer} → tally_refusal t ≡ n
+  refusing : (n : ℕ) {t z : Tally} {cs : List k.Ask} {rs : List k.Answer} → tally_refusal t ≡ Some n
       → Through k t cs rs z → Refusing k t n cs rs z
   unfolding tallied_answer tally_after counted
-  refusing n f e done = record { answers = refl; tally = refl }
-  refusing n f {t} e (asks {u = u} {c = c} {r = r} p later) =
-      let same : u ≡ t = rw (e, ne_eqb n 0 f) at (law.tally t c r u p) in
-      let number : r ≡ k.refused n = rw (e, ne_eqb n 0 f) at (law.answers t c r u p) in
-      let rest = refusing n f {t = u} (ap tally_refusal same ∙ e) later in
+  refusing n e done = record { answers = refl; tally = refl }
+  refusing n {t} e (asks {u = u} {c = c} {r = r} p later) =
+      let same : u ≡ t = rw e at (law.tally t c r u p) in
+      let number : r ≡ k.refused n = rw e at (law.answers t c r u p) in
+      let rest = refusing n {t = u} (ap tally_refusal same ∙ e) later in
       record { answers = cc (number, rest.answers); tally = rest.tally ∙ same }
 
   by_full_lem : {t z : Tally} {cs : List k.Ask} {rs : List k.Answer} → is_sound_tally t ≡ true → is_full t ≡ true
       → Through k t cs rs z → Refusing k t tally_full cs rs z
-  by_full_lem {t} s f p = refusing tally_full (λ e. omega arith) (full_refuses t s f) p
+  by_full_lem {t} s f p = refusing tally_full (full_refuses t s f) p
 
   -- a tally that is not full after a list was not full before it
   not_full_before : {t z : Tally} {cs : List k.Ask} {rs : List k.Answer} → is_sound_tally t ≡ true → is_full z ≡ false
@@ -89,6 +89,6 @@ module _ (k : TalliedCall) (law : Lawful k) where
         counts = counts;
         stays_sound = λ t cs rs z s p. (totals k law s p).sound;
         until_full = λ t cs rs z s f p. until_full_lem s f p;
-        by_unsound = λ t cs rs z e p. refusing unsound (λ e. omega arith) (unsound_refuses t e) p;
+        by_unsound = λ t cs rs z e p. refusing unsound (unsound_refuses t e) p;
         by_full = λ t cs rs z e f p. by_full_lem e f p;
       }

@@ -3,9 +3,10 @@ use Prim.Native.Nat.{ℕ, ◌+◌}
 use mathlib.Core.Path.{◌≡◌, refl}
 use mathlib.Core.Bool.{Bool, true, false, cond, ◌&&◌}
 use mathlib.Core.List.{List, ◌∷◌}
-use lib.Dec.{eqb}
 use native.Mathlib.Omega.{arith}
 use borrow.Author.Tests.{eqb-true, eq-eqb}
+use Rattle.std.specs.Prelude.{Some, None, is_some, not, unwrap_or}
+use Rattle.std.specs.Option.{option_map}
 use Rattle.tally.specs.declared.Tally.{Tally}
 use Rattle.tally.specs.declared.kinds.Kind.{Kind}
 use Rattle.tally.specs.declared.kinds.Kind.TheVariants.{Free, Within, Below, Above, Refused}
@@ -65,8 +66,8 @@ module _ (k : TalliedCall) (law : Lawful k) where
       sum = eqb-true t.asked (sum_of t) s
 
       go : (f : Bool)
-          → Added t (cond (eqb (cond f tally_full 0) 0) (k.answer_to c) (k.refused (cond f tally_full 0)))
-          (cond (eqb (cond f tally_full 0) 0) (one_more t (k.kind_of (k.answer_to c))) t)
+          → Added t (unwrap_or (option_map k.refused (cond f (Some tally_full) None)) (k.answer_to c))
+          (cond (not (is_some (cond f (Some tally_full) None))) (one_more t (k.kind_of (k.answer_to c))) t)
       go true = record { adds = rw law.says_full (adds_none t (k.kind_of (k.refused tally_full))); sound = sum }
       go false = record { adds = rw (law.not_full c) (adds_one t (k.kind_of (k.answer_to c))); sound = one_sound t (k.kind_of (k.answer_to c)) sum }
 

@@ -1,5 +1,5 @@
 -- A tally: when it refuses a check, and what it is after one that it takes.
-use Rattle.std.specs.Prelude.{ℕ, ◌+◌, ◌≡◌, Bool, not, cond, eqb, Result, Ok, Err}
+use Rattle.std.specs.Prelude.{ℕ, ◌+◌, ◌≡◌, Bool, not, cond, eqb, Option, Some, None, is_some, Result, Ok, Err}
 use Rattle.grain.specs.Refusals.{unsound, number_of}
 pub use Rattle.grain.specs.Refusals.{tally_full}
 use Rattle.grain.specs.declared.refusals.Refusal.{Refusal}
@@ -19,17 +19,12 @@ is_sound_tally t = eqb t.asked (sum_of t)
 unfoldable pub is_full : Tally → Bool
 is_full t = eqb t.asked 4294967295
 
--- the number with which a tally refuses every check, 1 before 15; 0 where it takes one more
-unfoldable pub tally_refusal : Tally → ℕ
-tally_refusal t = cond (not (is_sound_tally t)) unsound (cond (is_full t) tally_full 0)
+-- the number with which a tally refuses every check, 1 before 15; none where it takes one more
+unfoldable pub tally_refusal : Tally → Option ℕ
+tally_refusal t = cond (not (is_sound_tally t)) (Some unsound) (cond (is_full t) (Some tally_full) None)
 
 abbrev pub takes : Tally → Bool
-takes t = eqb (tally_refusal t) 0
-
--- the number of the refusal, or 0
-abbrev pub refusal_number : {A : Type 0} → Result A Refusal → ℕ
-refusal_number (Ok a) = 0
-refusal_number (Err r) = number_of r
+takes t = not (is_some (tally_refusal t))
 
 -- the result is the refusal with this number
 abbrev pub IsRefusedWith : ℕ → Result Verdict Refusal → Type 0

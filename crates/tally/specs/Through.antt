@@ -1,10 +1,11 @@
 -- Checks through one tally, one after another, whatever is asked and answered; and what is shown of every list of them, in proofs/Proved.antt.
-use Rattle.std.specs.Prelude.{ℕ, ◌+◌, ◌≡◌, Bool, true, false, not, cond, ◌&&◌, List, [], ◌∷◌, map, eqb}
+use Rattle.std.specs.Prelude.{ℕ, ◌+◌, ◌≡◌, Bool, true, false, not, cond, ◌&&◌, List, [], ◌∷◌, map, eqb, unwrap_or}
+use Rattle.std.specs.Option.{option_map}
 use Rattle.grain.specs.Refusals.{unsound}
 use Rattle.tally.specs.declared.Tally.{Tally}
 use Rattle.tally.specs.declared.kinds.Kind.{Kind}
 use Rattle.tally.specs.declared.kinds.Kind.TheVariants.{Free, Within, Below, Above, Refused}
-use Rattle.tally.specs.Tally.{tally_full, is_sound_tally, is_full, tally_refusal, takes, counted}
+use Rattle.tally.specs.Tally.{tally_full, is_sound_tally, is_full, tally_refusal, counted}
 
 -- a call that checks through a tally
 pub record TalliedCall : Type 1 where
@@ -51,7 +52,7 @@ same_kind j k = eqb (kind_number j) (kind_number k)
 module _ (k : TalliedCall) where
   -- what a list of checks answers and leaves
   unfoldable pub tallied_answer : Tally → k.Ask → k.Answer
-  tallied_answer t c = cond (takes t) (k.answer_to c) (k.refused (tally_refusal t))
+  tallied_answer t c = unwrap_or (option_map k.refused (tally_refusal t)) (k.answer_to c)
 
   unfoldable pub tally_after : Tally → k.Ask → Tally
   tally_after t c = counted t (k.kind_of (k.answer_to c))

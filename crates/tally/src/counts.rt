@@ -1,6 +1,8 @@
 // The counts of a tally: whether it takes one more check, and one more check.
 ghost use Rattle.std.specs.Prelude.{◌≡◌, ◌≢◌};
-ghost use Rattle.tally.specs.Tally.{refusal_number, sum_of, tally_refusal, one_more, counted};
+ghost use Rattle.std.specs.Option.{option_map};
+ghost use Rattle.grain.specs.Refusals.{number_of};
+ghost use Rattle.tally.specs.Tally.{sum_of, tally_refusal, one_more, counted};
 
 use crate::{Kind, Tally};
 use grain::Refusal;
@@ -16,17 +18,17 @@ impl Tally {
     }
 
     // Why it refuses every check, where it does.
-    pub fn refusal(&self) -> Result<(), Refusal>
-        ensures { refusal_number result ≡ tally_refusal self.now }
+    pub fn refusal(&self) -> Option<Refusal>
+        ensures { option_map number_of result ≡ tally_refusal self.now }
     {
         let asked = self.asked as u64;
         if asked != self.sum() {
-            return Err(Refusal::Unsound);
+            return Some(Refusal::Unsound);
         }
         if self.asked == u32::MAX {
-            return Err(Refusal::TallyFull);
+            return Some(Refusal::TallyFull);
         }
-        Ok(())
+        None
     }
 
     fn count_one(&mut self, kind: Kind)
@@ -48,7 +50,7 @@ impl Tally {
     pub fn count(&mut self, kind: Kind)
         ensures { self.new ≡ counted self.old kind }
     {
-        if self.refusal().is_ok() {
+        if self.refusal().is_none() {
             self.count_one(kind);
         }
     }

@@ -1,3 +1,2 @@
 pub mod BookAnswers
 pub mod Proved
-pub mod Ties
