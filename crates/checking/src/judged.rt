@@ -25,6 +25,7 @@ impl Terms<'_> {
     pub fn judged(&self, month: u32, price: u32) -> Result<Verdict, Refusal>
         ensures { checked_as result ≡ order_answer (view_terms self.now) month price }
     {
+        // The settlement, or else refusal 14: the look-up has both of its conditions.
         let Some(settlement) = self.listed(month) else {
             return Err(Refusal::NotListed);
         };

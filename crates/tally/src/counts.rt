@@ -31,6 +31,7 @@ impl Tally {
         None
     }
 
+    // The one place that counts: asked and the kind together, so that asked stays the sum.
     fn count_one(&mut self, kind: Kind)
         requires sound { self.old.asked ≡ sum_of self.old }
         requires room { self.old.asked ≢ u32.MAX }

@@ -20,6 +20,7 @@ pub struct Windows {
     // How many of its places each product uses.
     pub sizes: [u32; PRODUCT_COUNT],
     // Oldest first. Product p has the 45 places from 45 p on.
+    // One flat array, as the rule's document names it: a window is a slice of it, lent without a copy.
     pub settlements: [u32; SETTLEMENTS],
 }
 
