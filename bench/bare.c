@@ -1,15 +1,13 @@
 /* Nanoseconds a call: the proved bare check beside two in plain C, which have to give the same answers. */
-#define _POSIX_C_SOURCE 199309L
-
 #include <inttypes.h>
 #include <stdint.h>
 #include <stdio.h>
-#include <stdlib.h>
-#include <time.h>
 
 #include "bare_in_c.h"
 #include "botskhela.h"
+#include "draw.h"
 #include "products.h"
+#include "timing.h"
 
 #define CALLS 65536
 #define PASSES 100
@@ -28,17 +26,6 @@ struct measured {
 };
 
 static struct call calls[CALLS];
-
-/* xorshift64: the same calls in every run. */
-static uint32_t draw(uint32_t bound)
-{
-    static uint64_t state = 88172645463325252u;
-
-    state ^= state << 13;
-    state ^= state >> 7;
-    state ^= state << 17;
-    return (uint32_t)(state >> 32) % bound;
-}
 
 /*
  * Orders of every product around its limit. One in 8 asks for a mini, which five products do not
@@ -92,14 +79,6 @@ static int accepted(const struct measured *proved)
     return count;
 }
 
-static double now(void)
-{
-    struct timespec time;
-
-    clock_gettime(CLOCK_MONOTONIC, &time);
-    return (double)time.tv_sec * 1e9 + (double)time.tv_nsec;
-}
-
 static void measure(struct measured *measured, int round)
 {
     double start = now();
@@ -110,23 +89,9 @@ static void measure(struct measured *measured, int round)
     measured->nanoseconds[round] = (now() - start) / ((double)PASSES * CALLS);
 }
 
-static int by_size(const void *left, const void *right)
-{
-    double a = *(const double *)left;
-    double b = *(const double *)right;
-
-    return (a > b) - (a < b);
-}
-
-static double median(struct measured *measured)
-{
-    qsort(measured->nanoseconds, ROUNDS, sizeof(double), by_size);
-    return measured->nanoseconds[ROUNDS / 2];
-}
-
 static void print_beside(double proved_ns, struct measured *plain)
 {
-    double plain_ns = median(plain);
+    double plain_ns = median(plain->nanoseconds, ROUNDS);
 
     printf("%s  %.2f ns a call, ratio %.2f\n", plain->name, plain_ns, proved_ns / plain_ns);
 }
@@ -149,7 +114,7 @@ int main(void)
         measure(&plain, round);
         measure(&masked, round);
     }
-    proved_ns = median(&proved);
+    proved_ns = median(proved.nanoseconds, ROUNDS);
     printf("%s  %.2f ns a call\n", proved.name, proved_ns);
     print_beside(proved_ns, &plain);
     print_beside(proved_ns, &masked);

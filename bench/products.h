@@ -1,4 +1,4 @@
-/* The product table, for the C versions and for drawing calls that they accept. */
+/* The product table and the sizes of a book, for the C versions and for drawing calls that they accept. */
 #ifndef PRODUCTS_H
 #define PRODUCTS_H
 
@@ -6,6 +6,10 @@
 
 #define PRODUCTS 8
 #define SIZES 2
+
+/* The most that a sheet and a window hold. */
+#define CONTRACTS 16u
+#define WINDOW 45u
 
 static const uint32_t STEP[PRODUCTS] = {40, 40, 50, 50, 40, 40, 40, 10};
 static const uint32_t FLOOR[PRODUCTS] = {160, 400, 200, 200, 240, 240, 160, 100};

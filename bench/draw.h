@@ -1,0 +1,10 @@
+/* Drawn numbers, the same ones in every run. */
+#ifndef DRAW_H
+#define DRAW_H
+
+#include <stdint.h>
+
+/* Below the bound, which is not 0. */
+uint32_t draw(uint32_t bound);
+
+#endif
