@@ -1,10 +1,9 @@
-/* Nanoseconds a call: the proved bare check beside two in plain C, which have to give the same answers. */
+/* Nanoseconds a call: the proved bare check beside those in plain C, which have to give the same answers. */
 #include <inttypes.h>
 #include <stdint.h>
 #include <stdio.h>
 
-#include "bare_in_c.h"
-#include "botskhela.h"
+#include "book_in_c.h"
 #include "draw.h"
 #include "products.h"
 #include "timing.h"
@@ -17,12 +16,21 @@ struct call {
     uint32_t product, size, settlement, amount, spot, price;
 };
 
-typedef uint32_t check_function(uint32_t, uint32_t, uint32_t, uint32_t, uint32_t, uint32_t);
-
 struct measured {
     const char *name;
-    check_function *check;
+    const struct library *library;
     double nanoseconds[ROUNDS];
+};
+
+static struct measured proved = {"botskhela_bare_check       ", &PROVED, {0}};
+
+static struct measured in_c[] = {
+    {"C at -O3, tick by remainder", &plain_gcc, {0}},
+    {"C at -O3, tick by mask     ", &best_gcc, {0}},
+#ifdef WITH_CLANG
+    {"by clang, tick by remainder", &plain_clang, {0}},
+    {"by clang, tick by mask     ", &best_clang, {0}},
+#endif
 };
 
 static struct call calls[CALLS];
@@ -50,32 +58,33 @@ static struct call draw_call(void)
 
 static uint32_t answer(const struct measured *measured, const struct call *c)
 {
-    return measured->check(c->product, c->size, c->settlement, c->amount, c->spot, c->price);
+    return measured->library->bare_check(c->product, c->size, c->settlement, c->amount, c->spot,
+                                         c->price);
 }
 
 /* Says the first call that a C version answers otherwise than the proved check. */
-static int differ(const struct measured *proved, const struct measured *plain)
+static int differ(const struct measured *plain)
 {
     for (int i = 0; i < CALLS; i++) {
         const struct call *c = &calls[i];
 
-        if (answer(proved, c) == answer(plain, c))
+        if (answer(&proved, c) == answer(plain, c))
             continue;
         printf("%s: %" PRIu32 " to %" PRIu32 " %" PRIu32 " %" PRIu32 " %" PRIu32 " %" PRIu32
                " %" PRIu32 ", the proved check %" PRIu32 "\n",
                plain->name, answer(plain, c), c->product, c->size, c->settlement, c->amount,
-               c->spot, c->price, answer(proved, c));
+               c->spot, c->price, answer(&proved, c));
         return 1;
     }
     return 0;
 }
 
-static int accepted(const struct measured *proved)
+static int accepted(void)
 {
     int count = 0;
 
     for (int i = 0; i < CALLS; i++)
-        count += answer(proved, &calls[i]) >= BOTSKHELA_FREE;
+        count += answer(&proved, &calls[i]) >= BOTSKHELA_FREE;
     return count;
 }
 
@@ -98,25 +107,23 @@ static void print_beside(double proved_ns, struct measured *plain)
 
 int main(void)
 {
-    struct measured proved = {"botskhela_bare_check       ", botskhela_bare_check, {0}};
-    struct measured plain = {"C at -O3, tick by remainder", bare_in_c, {0}};
-    struct measured masked = {"C at -O3, tick by mask     ", masked_in_c, {0}};
     double proved_ns;
 
     for (int i = 0; i < CALLS; i++)
         calls[i] = draw_call();
-    if (differ(&proved, &plain) || differ(&proved, &masked))
-        return 1;
-    printf("%d orders of %d products, %d accepted, the answers of all three the same\n", CALLS,
-           PRODUCTS, accepted(&proved));
+    for (size_t i = 0; i < IN_C_COUNT; i++)
+        if (differ(&in_c[i]))
+            return 1;
+    printf("%d orders of %d products, %d accepted, the answers of all the same\n", CALLS, PRODUCTS,
+           accepted());
     for (int round = 0; round < ROUNDS; round++) {
         measure(&proved, round);
-        measure(&plain, round);
-        measure(&masked, round);
+        for (size_t i = 0; i < IN_C_COUNT; i++)
+            measure(&in_c[i], round);
     }
     proved_ns = median(proved.nanoseconds, ROUNDS);
     printf("%s  %.2f ns a call\n", proved.name, proved_ns);
-    print_beside(proved_ns, &plain);
-    print_beside(proved_ns, &masked);
+    for (size_t i = 0; i < IN_C_COUNT; i++)
+        print_beside(proved_ns, &in_c[i]);
     return 0;
 }

@@ -19,4 +19,13 @@ static const uint32_t TICK[PRODUCTS][SIZES] = {
     {2, 1}, {2, 1}, {1, 0}, {1, 0}, {2, 1}, {2, 0}, {2, 0}, {1, 0},
 };
 
+/* A bit for each month that is traded, January's the lowest. */
+static const uint32_t TRADED[PRODUCTS] = {0x954, 0x5d5, 0xbd5, 0xbd5, 0x954, 0x954, 0x954, 0x555};
+
+/* How many of the first contracts can trigger, and the last month of the crop year, from 1 on. */
+static const uint32_t FIRST[PRODUCTS] = {5, 7, 8, 8, 5, 5, 5, 6};
+static const uint32_t LAST_CROP_MONTH[PRODUCTS] = {9, 8, 9, 9, 5, 5, 5, 7};
+
+static const uint32_t GROUP[PRODUCTS] = {0, 1, 1, 1, 2, 2, 3, 4};
+
 #endif
