@@ -1,6 +1,7 @@
 /*
- * The archive beside the calls in plain C: beside_c compare N
- * Compares both on N drawn books and N / 100 drawn histories, and ends in 'N passed, M failed'.
+ * The archive beside the calls in plain C: beside_c [compare N]
+ * Compares both on N drawn books and N / 100 drawn histories, and ends in 'N passed, M failed'. Without arguments it compares them
+ * so and then measures each call.
  */
 #include <stdio.h>
 #include <stdlib.h>
@@ -9,8 +10,10 @@
 #include "compare.h"
 #include "draw.h"
 #include "drawn.h"
+#include "measure.h"
 #include "products.h"
 
+#define BOOKS_COMPARED 30000
 #define BOOKS_A_HISTORY 100
 #define DAYS 60
 #define TRIES 60
@@ -101,14 +104,16 @@ static int failed_comparisons(uint32_t count, int *total)
 int main(int argc, char **argv)
 {
     const int compares = argc == 3 && strcmp(argv[1], "compare") == 0;
-    const int count = compares ? atoi(argv[2]) : 0;
+    const int count = compares ? atoi(argv[2]) : BOOKS_COMPARED;
     int total, failed;
 
-    if (count <= 0) {
-        printf("usage: beside_c compare N\n");
+    if ((argc != 1 && !compares) || count <= 0) {
+        printf("usage: beside_c [compare N]\n");
         return 2;
     }
     failed = failed_comparisons((uint32_t)count, &total);
+    if (failed == 0 && !compares)
+        return measure();
     printf("%d passed, %d failed\n", total - failed, failed);
     return failed != 0;
 }

@@ -52,8 +52,31 @@ static int open_and_file(struct books *books, botskhela_book *book, uint32_t day
 
     move_settlements(books, day);
     books->at[OPENED] = *book;
-    for (uint32_t product = 0; product < PRODUCTS; product++)
+    for (uint32_t product = 0; product < PRODUCTS; product++) {
+        books->at[NEARLY_FILED] = *book;
         refusals |= file(&PROVED, books, book, product);
+    }
+    return refusals != 0;
+}
+
+static uint32_t file_moved(const struct books *books, botskhela_book *book, uint32_t product)
+{
+    const botskhela_contract *last = book->last[product].contracts;
+    uint32_t settlements[CONTRACTS];
+
+    for (uint32_t i = 0; i < books->contracts; i++)
+        settlements[i] = last[i].settlement + book->limits[product].initial;
+    return botskhela_sheet(book, product, books->months, books->contracts, settlements,
+                           books->contracts);
+}
+
+static int file_all_moved(struct books *books)
+{
+    uint32_t refusals = 0;
+
+    books->at[MOVED] = books->at[OPENED];
+    for (uint32_t product = 0; product < PRODUCTS; product++)
+        refusals |= file_moved(books, &books->at[MOVED], product);
     return refusals != 0;
 }
 
@@ -73,5 +96,6 @@ int make_books(struct books *books, uint32_t contracts, uint32_t days)
     books->at[ENDED_2014].edition = BOTSKHELA_EDITION_2014;
     refused |= open_and_file(books, &book, days);
     books->at[FILED] = book;
+    refused |= file_all_moved(books);
     return refused || book.windows.counts[0] != (days < WINDOW ? days : WINDOW);
 }

@@ -12,7 +12,9 @@ enum {
     ENDED,
     ENDED_2014,   /* the same under 2014 */
     OPENED,       /* the next day is open */
+    NEARLY_FILED, /* all its sheets are in but the last */
     FILED,
+    MOVED, /* filed, each settlement moved by exactly the limit */
     BOOKS
 };
 

@@ -39,6 +39,13 @@ static uint32_t make_sheet(const struct library *library, const struct books *bo
     return file(library, books, book, turn % PRODUCTS);
 }
 
+static uint32_t make_last_sheet(const struct library *library, const struct books *books,
+                                botskhela_book *book, uint32_t turn)
+{
+    (void)turn;
+    return file(library, books, book, PRODUCTS - 1);
+}
+
 static uint32_t make_end(const struct library *library, const struct books *books,
                          botskhela_book *book, uint32_t turn)
 {
@@ -90,6 +97,17 @@ static uint32_t make_tallied(const struct library *library, const struct books *
                                   books->months[contract_of(books, turn)], price_of(books, turn));
 }
 
+static uint32_t make_bare(const struct library *library, const struct books *books,
+                          botskhela_book *book, uint32_t turn)
+{
+    const uint32_t product = turn % PRODUCTS;
+
+    (void)book;
+    return library->bare_check(product, BOTSKHELA_STANDARD,
+                               books->settlements[product][contract_of(books, turn)],
+                               FLOOR[product], 0, price_of(books, turn));
+}
+
 static uint32_t make_nothing(const struct library *library, const struct books *books,
                              botskhela_book *book, uint32_t turn)
 {
@@ -109,6 +127,13 @@ const struct step STEP_OF[STEPS] = {
     {"check", make_check, OPENED, 0},
     {"check_span", make_check_span, OPENED, 0},
     {"tallied_book_check", make_tallied, OPENED, 0},
+};
+
+const struct step FURTHER_STEP_OF[FURTHER_STEPS] = {
+    {"sheet, the last", make_last_sheet, NEARLY_FILED, 1},
+    {"end, all triggered", make_end, MOVED, 1},
+    {"check, all filed", make_check, FILED, 0},
+    {"bare_check", make_bare, FILED, 0},
 };
 
 const struct step COPY = {"a copy", make_nothing, ENDED, 1};

@@ -20,6 +20,10 @@ struct step {
 #define STEPS 9
 extern const struct step STEP_OF[STEPS];
 
+/* Calls on other books, and the bare check. */
+#define FURTHER_STEPS 4
+extern const struct step FURTHER_STEP_OF[FURTHER_STEPS];
+
 /* What is taken off a step that changes its book, and off one that does not. */
 extern const struct step COPY, NOTHING;
 

@@ -21,6 +21,12 @@ static int by_size(const void *left, const void *right)
     return (a > b) - (a < b);
 }
 
+double minimum(double *times, size_t count)
+{
+    qsort(times, count, sizeof *times, by_size);
+    return times[0];
+}
+
 double median(double *times, size_t count)
 {
     qsort(times, count, sizeof *times, by_size);

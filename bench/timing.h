@@ -7,7 +7,8 @@
 /* Nanoseconds of a clock that only goes forward. */
 double now(void);
 
-/* Sorts the times. */
+/* Both sort the times. */
+double minimum(double *times, size_t count);
 double median(double *times, size_t count);
 
 #endif
