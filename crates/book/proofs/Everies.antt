@@ -1,5 +1,5 @@
--- A test that each of a list passes: of a joined list, of a list of lists, and of two tests at once.
-use mathlib.Core.Path.{◌≡◌, refl, sym, ◌∙◌, ap}
+-- A test that each of a list passes: of a joined list, of a list of lists, of two tests at once, and of two that answer the same.
+use mathlib.Core.Path.{◌≡◌, refl, sym, ◌∙◌, ap, ap₂}
 use mathlib.Core.Bool.{Bool, true, false}
 use mathlib.Core.List.{List, [], ◌∷◌, ◌++◌}
 use Rattle.grain.specs.Lists.{◌and◌, every}
@@ -22,6 +22,11 @@ module _ {A : Type 0} (f : A → Bool) where
   unfolding every ◌and◌
   every_joined [] m = refl
   every_joined (x ∷ l) m = ap (f x and◌) (every_joined l m) ∙ sym (and_assoc (f x) (every f l) (every f m))
+
+  pub every_same : (h : A → Bool) → ((x : A) → f x ≡ h x) → (l : List A) → every f l ≡ every h l
+  unfolding every
+  every_same h e [] = refl
+  every_same h e (x ∷ l) = ap₂ ◌and◌ (e x) (every_same h e l)
 
   pub every_both : (h : A → Bool) (l : List A) → every (λ x. f x and h x) l ≡ every f l and every h l
   unfolding every ◌and◌

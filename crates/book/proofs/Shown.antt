@@ -1,6 +1,6 @@
 -- The tests of soundness over a book's groups, as tests over the numbers of its products and of its groups.
 use Prim.Native.Nat.{ℕ}
-use mathlib.Core.Path.{◌≡◌, refl, ◌∙◌, ap, ap₂}
+use mathlib.Core.Path.{◌≡◌, refl, sym, ◌∙◌, ap, ap₂}
 use mathlib.Core.Bool.{Bool, true, false, not, ◌&&◌, ◌||◌, cond}
 use mathlib.Core.List.{List, map}
 use Rattle.std.specs.List.{list_all}
@@ -17,8 +17,9 @@ use Rattle.sheets.specs.Sheets.{sheet_in}
 use Rattle.book.specs.declared.Book.{Book}
 use Rattle.book.specs.Book.{no_sheet, no_standing, is_set, is_book, edition_in, opened_in, standing_in, today_in, last_in, level_of, view_product, view_group, view_groups, view_common, view}
 use Rattle.book.specs.Numbers.{all_products, all_groups}
-use Rattle.book.specs.Soundness.{is_there, is_missing, are_last_sound, is_mark_sound}
-use Rattle.book.proofs.Everies.{every_both, every_concat}
+use Rattle.book.specs.Soundness.{is_limit_sound, are_settlements_sound, is_there, is_missing, are_last_sound, is_mark_sound}
+use Rattle.book.proofs.Everies.{and_assoc, every_both, every_concat}
+use Rattle.book.proofs.ProductTests.{products_split}
 use Rattle.book.proofs.Items.{every_place}
 use Rattle.book.proofs.Views.{shown_group, groups_are}
 
@@ -57,18 +58,23 @@ marks_are b =
 
 pub groups_shown : (b : Book)
     → every (is_sound_group (edition_in b)) (view_groups b 0 group_table)
-    ≡ every (λ g. is_mark_sound (has_marks b) (standing_in b g)) all_groups and every (λ p. is_sound_product (view_product b p)) all_products
+    ≡ every (λ g. is_mark_sound (has_marks b) (standing_in b g)) all_groups
+    and every (is_limit_sound b) all_products
+    and every (are_settlements_sound b) all_products
 unfolding is_sound_group
 groups_shown b =
     every_both (is_mark_shown_sound (has_marks b)) (λ (g : Group). every is_sound_product g.products) (view_groups b 0 group_table)
-    ∙ ap₂ ◌and◌ (marks_are b) (flat b is_sound_product)
+    ∙ ap₂ ◌and◌ (marks_are b) (flat b is_sound_product ∙ products_split b)
+    ∙ sym (and_assoc _ (every (is_limit_sound b) all_products) (every (are_settlements_sound b) all_products))
 
 -- the tests of a book, one after the other
 pub sound_is : (b : Book)
     → is_sound (view b)
     ≡ (is_edition (edition_in b)
     and is_sound_date (opened_in b) (is_set b.is_open)
-    and (every (λ g. is_mark_sound (has_marks b) (standing_in b g)) all_groups and every (λ p. is_sound_product (view_product b p)) all_products)
+    and (every (λ g. is_mark_sound (has_marks b) (standing_in b g)) all_groups
+    and every (is_limit_sound b) all_products
+    and every (are_settlements_sound b) all_products)
     and (is_set b.is_open || every (λ p. not (is_some (sheet_in (today_in b p)))) all_products)
     and ((is_some (opened_in b) and every (λ p. is_some (sheet_in (last_in b p))) all_products)
     || every (λ p. not (is_some (sheet_in (last_in b p)))) all_products))
@@ -82,10 +88,10 @@ sound_is b =
     (ap (is_some (opened_in b) and◌) (flat b (λ q. is_some q.last)))
     (flat b (λ q. not (is_some q.last))))
 
-in_a_row : (x c d e f : Bool) → (x and (c and d) and e and f) ≡ (x && c && d && e && f)
+in_a_row : (x c l d e f : Bool) → (x and ((c and l) and d) and e and f) ≡ (x && c && l && d && e && f)
 unfolding ◌and◌
-in_a_row true c d e f = refl
-in_a_row false c d e f = refl
+in_a_row true c l d e f = refl
+in_a_row false c l d e f = refl
 
 -- the same, with the tests of all places of an array as one
 in_places : (b : Book) → length b.standings ≡ 5 → length b.today ≡ 8 → length b.last ≡ 8
@@ -93,7 +99,8 @@ in_places : (b : Book) → length b.standings ≡ 5 → length b.today ≡ 8 →
     ≡ (is_edition (edition_in b)
     && is_sound_date (opened_in b) (is_set b.is_open)
     && list_all (is_mark_sound (has_marks b)) b.standings
-    && every (λ p. is_sound_product (view_product b p)) all_products
+    && every (is_limit_sound b) all_products
+    && every (are_settlements_sound b) all_products
     && (is_set b.is_open || list_all is_missing b.today)
     && are_last_sound (opened_in b) b.last)
 unfolding ◌and◌
@@ -101,7 +108,7 @@ in_places b five eight eight' =
     sound_is b
     ∙ rw
     (every_place (is_mark_sound (has_marks b)) 5 b.standings no_standing five, every_place is_missing 8 b.today no_sheet eight, every_place is_there 8 b.last no_sheet eight', every_place is_missing 8 b.last no_sheet eight')
-    (in_a_row (is_edition (edition_in b) && is_sound_date (opened_in b) (is_set b.is_open)) _ _ _ _)
+    (in_a_row (is_edition (edition_in b) && is_sound_date (opened_in b) (is_set b.is_open)) _ _ _ _ _)
 
 -- and where the format and the flags are a book's, by its own edition
 module _ (b : Book) where
@@ -110,7 +117,8 @@ module _ (b : Book) where
       is_edition e
       && is_sound_date (opened_in b) (is_set b.is_open)
       && list_all (is_mark_sound (conditions_of e).has_marks) b.standings
-      && every (λ p. is_sound_product (view_product b p)) all_products
+      && every (is_limit_sound b) all_products
+      && every (are_settlements_sound b) all_products
       && (is_set b.is_open || list_all is_missing b.today)
       && are_last_sound (opened_in b) b.last
 
@@ -120,7 +128,8 @@ module _ (b : Book) where
       && is_edition e
       && is_sound_date (opened_in b) (is_set b.is_open)
       && list_all (is_mark_sound (conditions_of e).has_marks) b.standings
-      && every (λ p. is_sound_product (view_product b p)) all_products
+      && every (is_limit_sound b) all_products
+      && every (are_settlements_sound b) all_products
       && (is_set b.is_open || list_all is_missing b.today)
       && are_last_sound (opened_in b) b.last
 
@@ -138,7 +147,8 @@ module _ (b : Book) where
       && is_edition b.edition
       && is_sound_date (opened_in b) (is_set b.is_open)
       && list_all (is_mark_sound (conditions_of b.edition).has_marks) b.standings
-      && every (λ p. is_sound_product (view_product b p)) all_products
+      && every (is_limit_sound b) all_products
+      && every (are_settlements_sound b) all_products
       && (is_set b.is_open || list_all is_missing b.today)
       && are_last_sound (opened_in b) b.last)
   sound_tests five eight eight' = in_places b five eight eight' ∙ rest_is

@@ -10,7 +10,7 @@ use borrow.Author.Tests.{leb-true, leb-false, lt-leb, eqb-true, ne_eqb}
 use Rattle.grain.specs.Lists.{◌and◌, every, is_ascending}
 use Rattle.grain.specs.Products.{product_count}
 use Rattle.grain.specs.Prices.{is_settlement}
-use Rattle.grain.proofs.Tests.{and_left, and_right}
+use Rattle.grain.proofs.Tests.{and_left, and_right, both}
 use Rattle.record.specs.declared.Day.{Day}
 use Rattle.record.specs.State.{day_of}
 use Rattle.record.specs.Edition.{is_edition}
@@ -25,6 +25,7 @@ use Rattle.windows.proofs.Shown.{too_long}
 use Rattle.book.specs.declared.Book.{Book}
 use Rattle.book.specs.Book.{is_set, is_book, edition_in, opened_in, today_in, last_in, view_product, view_common, view}
 use Rattle.book.proofs.SheetsIn.{none-listed}
+use Rattle.book.proofs.ProductTests.{products_split}
 use Rattle.book.proofs.Shown.{sound_is}
 use Rattle.book.proofs.Numbers.{each_passes}
 
@@ -83,8 +84,9 @@ module _ (b : Book) (sound : is_sound (view b) ≡ true) where
   module _ (p : ℕ) (l : p < product_count) where
     pub product_sound : is_sound_product (view_product b p) ≡ true
     product_sound =
-        let t = and_right _ _ (and_right _ _ (and_left _ _ (and_left _ _ (sym (sound_is b) ∙ sound)))) in
-        each_passes (λ p. is_sound_product (view_product b p)) product_count p t l
+        let t = and_right _ _ (and_left _ _ (and_left _ _ (sym (sound_is b) ∙ sound))) in
+        let each = products_split b ∙ both _ _ (and_right _ _ (and_left _ _ t)) (and_right _ _ t) in
+        each_passes (λ p. is_sound_product (view_product b p)) product_count p each l
 
     pub today_fits : (today_in b p).count ≤ 16
     today_fits = sheet_fits p (today_in b p) (facts b p product_sound).today

@@ -1,14 +1,18 @@
--- What the soundness test asks of a row of sheets and of one group.
+-- What the soundness test asks of a product's limits and settlements, of a row of sheets and of one group.
 -- For the functions inside, but for are_all_in, which the end of a day asks: what the test promises is the Record's is_sound alone.
-use Rattle.std.specs.Prelude.{Bool, not, ◌&&◌, ◌||◌, List, Option, is_some}
+use Rattle.std.specs.Prelude.{ℕ, Bool, not, ◌&&◌, ◌||◌, List, leb, eqb, length, Option, is_some}
 use Rattle.std.specs.List.{list_all}
 use Rattle.grain.specs.Lists.{◌and◌, every}
+use Rattle.grain.specs.Prices.{is_settlement}
+use Rattle.grain.specs.Amounts.{window_length, expanded_of, is_fit_amount}
+use Rattle.grain.specs.declared.amounts.Limit.{Limit}
 use Rattle.record.specs.declared.Day.{Day}
+use Rattle.record.specs.Sound.{is_sound_sheet}
 use Rattle.sheets.specs.declared.sheet.Sheet.{Sheet}
 use Rattle.sheets.specs.Sheets.{sheet_in}
 use Rattle.book.specs.declared.standing.Standing.{Standing}
 use Rattle.book.specs.declared.Book.{Book}
-use Rattle.book.specs.Book.{is_set, today_in}
+use Rattle.book.specs.Book.{is_set, limit_in, window_of, today_in, last_in}
 use Rattle.book.specs.Numbers.{all_products}
 
 abbrev pub is_there : Sheet → Bool
@@ -28,3 +32,18 @@ are_last_sound opened sheets = (is_some opened and list_all is_there sheets) || 
 -- a mark only on an expanded group, where there are marks
 abbrev pub is_mark_sound : Bool → Standing → Bool
 is_mark_sound marks s = not (is_set s.marked) || (is_set s.expanded && marks)
+
+-- fit, with its own E
+abbrev pub is_sound_limit : ℕ → Limit → Bool
+is_sound_limit p limit = is_fit_amount p limit.initial and eqb limit.expanded (expanded_of p limit.initial)
+
+-- of a product
+abbrev pub is_limit_sound : Book → ℕ → Bool
+is_limit_sound b p = is_sound_limit p (limit_in b p)
+
+-- a product's window and its two sheets
+abbrev pub are_settlements_sound : Book → ℕ → Bool
+are_settlements_sound b p =
+    (leb (length (window_of b p)) window_length and every (is_settlement p) (window_of b p))
+    && is_sound_sheet p (sheet_in (today_in b p))
+    && is_sound_sheet p (sheet_in (last_in b p))
