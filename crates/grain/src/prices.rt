@@ -85,6 +85,8 @@ fn are_each_on_tick(tick: u32, prices: &[u32]) -> bool
     all
 }
 
+// Always inlined: with a call for each window a check is slower.
+#[inline(always)]
 pub fn are_on_tick(tick: u32, prices: &[u32]) -> bool
     ensures { result ≡ every (is_on_tick tick) prices.now }
 {

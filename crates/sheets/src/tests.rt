@@ -107,6 +107,8 @@ impl Sheet {
     }
 
     // Whether a book may hold it, for a product.
+    // Always inlined: what a product's two sheets have in common is then looked up once.
+    #[inline(always)]
     pub fn is_sound(&self, product: u32) -> bool
         ensures { result ≡ is_sound_sheet product (sheet_in self.now) }
     {
