@@ -1,3 +1,4 @@
 pub mod EarlyTests
 pub mod Contracts
+pub mod Plain
 pub mod Filings
