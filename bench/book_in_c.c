@@ -164,6 +164,46 @@ static uint32_t change_refusal(const botskhela_book *book, uint32_t product, con
     return is_beyond ? BOTSKHELA_BEYOND_LIMIT : 0;
 }
 
+#ifdef BEST
+/*
+ * A quick test of 7 to 10 that only accepts: the last sheet's months, which a sound book has traded and ascending, each in its place,
+ * with settlements on the tick and within the limit.
+ */
+static inline int is_plainly_after(const botskhela_book *book, uint32_t product,
+                                   const uint32_t *months, const uint32_t *settlements,
+                                   uint32_t count)
+{
+    const botskhela_product_sheet *last = &book->last[product];
+    const uint32_t limit = limit_of(book, product), tick = TICK[product][BOTSKHELA_STANDARD];
+    uint32_t joined = 0;
+    int is_plain = months[0] >= trade_month(book);
+
+    if (count != last->count)
+        return 0;
+    for (uint32_t i = 0; i < count; i++) {
+        is_plain &= months[i] == last->contracts[i].month;
+        is_plain &= distance(settlements[i], last->contracts[i].settlement) <= limit;
+        joined |= settlements[i] - tick;
+    }
+    return is_plain && is_joined_sound(joined, tick);
+}
+#endif
+
+static uint32_t entries_refusal(const botskhela_book *book, uint32_t product, const uint32_t *months,
+                              const uint32_t *settlements, uint32_t count)
+{
+    uint32_t refusal;
+
+#ifdef BEST
+    if (is_plainly_after(book, product, months, settlements, count))
+        return 0;
+#endif
+    refusal = contract_refusal(book, product, months, settlements, count);
+    if (refusal == 0)
+        refusal = change_refusal(book, product, months, settlements, count);
+    return refusal;
+}
+
 static void keep(botskhela_product_sheet *sheet, const uint32_t *months,
                  const uint32_t *settlements, uint32_t count)
 {
@@ -190,9 +230,7 @@ static uint32_t sheet(botskhela_book *book, uint32_t product, const uint32_t *mo
         return BOTSKHELA_ALREADY_IN;
     if (n_months != n_settlements || n_months == 0 || n_months > CONTRACTS)
         return BOTSKHELA_MISSHAPEN;
-    refusal = contract_refusal(book, product, months, settlements, count);
-    if (refusal == 0)
-        refusal = change_refusal(book, product, months, settlements, count);
+    refusal = entries_refusal(book, product, months, settlements, count);
     if (refusal == 0)
         keep(&book->today[product], months, settlements, count);
     return refusal;
