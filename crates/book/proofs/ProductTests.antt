@@ -1,5 +1,5 @@
 -- The tests of what a book holds of its products: their limits, and their windows and sheets.
-use Rattle.std.proofs.Common.{◌≡◌, refl, ◌∙◌, ℕ, Bool, true, false, ◌&&◌, leb, eqb, length, ◌%◌}
+use Rattle.std.proofs.Common.{◌≡◌, refl, ◌∙◌, ℕ, Bool, true, false, ◌&&◌, leb, eqb, ◌%◌}
 use Rattle.grain.specs.Lists.{◌and◌, every}
 use Rattle.grain.specs.Products.{is_product, floor_of, step_of}
 use Rattle.grain.specs.Amounts.{is_fit, is_fit_amount}
