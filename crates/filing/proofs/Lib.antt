@@ -1,4 +1,5 @@
 pub mod EarlyTests
 pub mod Contracts
+mod After
 pub mod Plain
 pub mod Filings

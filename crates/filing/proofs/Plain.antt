@@ -19,7 +19,8 @@ use Rattle.record.specs.Refusals.{first}
 use Rattle.record.specs.State.{day_of, trade_date, group_of, group_at, todays_limit, settlement_on, sheet_or}
 use Rattle.record.specs.Sheet.{is_absent, has_moved_beyond, has_bad_month, lacks_contract, is_beyond}
 use Rattle.record.specs.Sound.{is_sound, is_sound_product, is_sound_sheet}
-use Rattle.sheets.specs.Sheets.{no_contract, entries_of, months_of, settlements_of, sheet_in, IsPlainlyAfter, PlainlyAfter}
+use Rattle.sheets.specs.Sheets.{no_contract, entries_of, months_of, settlements_of, sheet_in}
+use Rattle.filing.specs.Plain.{IsPlainlyAfter, PlainlyAfter}
 use Rattle.sheets.proofs.Rest.{counted}
 use Rattle.book.specs.declared.Book.{Book}
 use Rattle.book.specs.Book.{last_in, view_product, view}

@@ -7,6 +7,7 @@ use book::Book;
 use grain::Refusal;
 use sheets::Sheet;
 
+mod quick;
 mod refusals;
 
 use refusals::{contract_refusal, early_refusal};

@@ -10,6 +10,7 @@ ghost use Rattle.book.specs.Book.{view};
 ghost use Rattle.book.specs.Calls.{refusal_in};
 ghost use Rattle.filing.specs.Files.{early_tests, contract_tests};
 
+use crate::quick::is_plainly_after;
 use book::Book;
 use grain::{Refusal, TradeDate};
 use sheets::Sheet;
@@ -52,7 +53,7 @@ fn passes_plainly(b: &Book, date: TradeDate, p: usize, s: &Sheet) -> bool
     let Some(nearest) = s.entries().first() else {
         return false;
     };
-    date.month <= nearest.month && s.is_plainly_after(p as u32, b.limit_of(p), &b.last[p])
+    date.month <= nearest.month && is_plainly_after(s, p as u32, b.limit_of(p), &b.last[p])
 }
 
 // Those that look at the contracts.

@@ -1,5 +1,5 @@
 // Prices and settlements: in range and on the tick.
-ghost use Rattle.std.specs.Prelude.{ℕ, ◌≡◌, true};
+ghost use Rattle.std.specs.Prelude.{ℕ, ◌≡◌, true, ◌&&◌, ◌+◌, ◌-◌, ◌%◌, ◌^◌, leb, bit_or};
 ghost use Rattle.grain.specs.Lists.{every};
 ghost use Rattle.grain.specs.Prices.{is_on_tick, is_settlement};
 ghost use Rattle.grain.specs.Joined.{IsJoined};
@@ -35,6 +35,7 @@ pub fn is_on_tick(tick: u32, price: u32) -> bool
 
 // Prices joined, to be tested all at once: the bits of each less the tick.
 pub fn join(joined: u32, tick: u32, price: u32) -> u32
+    ensures value { result ≡ bit_or joined ((price + (2 ^ 32 - tick)) % 2 ^ 32) }
     ensures now { IsJoined tick result price }
     ensures still { (x : ℕ) → IsJoined tick joined x → IsJoined tick result x }
 {
@@ -43,9 +44,10 @@ pub fn join(joined: u32, tick: u32, price: u32) -> u32
 
 // Whether the joined prices are on a tick of 1 or 2. It only accepts: false says nothing.
 pub fn are_joined_on_tick(tick: u32, joined: u32) -> bool
-    ensures { result ≡ true → (x : ℕ) → IsJoined tick joined x → is_on_tick tick x ≡ true }
+    ensures value { result ≡ (leb 1 tick && leb tick 2 && leb joined 999998 && leb (joined % 2 + tick) 2) }
+    ensures accepts { result ≡ true → (x : ℕ) → IsJoined tick joined x → is_on_tick tick x ≡ true }
 {
-    if tick == 0 {
+    if tick < 1 {
         return false;
     }
     if 2 < tick {

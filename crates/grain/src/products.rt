@@ -1,5 +1,5 @@
 // The product table. Its columns stand apart since they are those of the definitions; one function reads each.
-ghost use Rattle.std.specs.Prelude.{ℕ, ◌+◌, ◌/◌, ◌%◌, ◌^◌, ◌<◌, ◌≡◌, true};
+ghost use Rattle.std.specs.Prelude.{ℕ, ◌+◌, ◌/◌, ◌%◌, ◌^◌, ◌<◌, ◌≡◌, eqb};
 ghost use Rattle.grain.specs.Products.{product_count, is_product, step_of, floor_of, first_of, tick_of, is_traded, is_last_crop_month};
 
 // How many products there are.
@@ -88,10 +88,10 @@ pub fn is_traded(product: u32, month: u32) -> bool
     (MONTHS[product as usize] >> (month % 12)) % 2 == 1
 }
 
-// The months that the product trades in, from a contract month on: bit d is the month d after it. It only accepts: a bit that is not set
-// says nothing, and none is where there is no such product.
+// The months that the product trades in, from a contract month on: bit d is the month d after it, for the next 48. None where there is no such
+// product.
 pub fn traded_from(product: u32, month: u32) -> u64
-    ensures { (d : ℕ) → d < 48 → result / 2 ^ d % 2 ≡ 1 → is_traded product (month + d) ≡ true }
+    ensures { (d : ℕ) → d < 48 → eqb (result / 2 ^ d % 2) 1 ≡ is_traded product (month + d) }
 {
     if PRODUCTS <= product {
         return 0;

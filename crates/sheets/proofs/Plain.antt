@@ -1,13 +1,14 @@
 -- The quick test of a sheet: what it has found of the contracts so far, if the months that are still to come do not go too far.
 use Prim.Native.Nat.{ℕ, ◌+◌, ◌/◌, ◌%◌, ◌^◌, ◌<◌, ◌≤◌}
-use mathlib.Core.Path.{◌≡◌, refl, ◌∙◌}
+use mathlib.Core.Path.{◌≡◌, refl, sym, ◌∙◌}
 use mathlib.Core.Bool.{true}
 use mathlib.Core.List.{List, [], ◌∷◌}
 use Rattle.std.specs.Prelude.{Some, None}
 use Rattle.std.specs.List.{slice_get}
 use native.Mathlib.Omega.{arith}
+use lib.Dec.{eqb}
 use lib.ListN.{length, drop, get_or}
-use borrow.Author.Tests.{le-leb}
+use borrow.Author.Tests.{le-leb, eq-eqb}
 use Rattle.grain.specs.Lists.{◌and◌, every, is_ascending}
 use Rattle.grain.specs.Products.{is_traded}
 use Rattle.grain.specs.Prices.{is_settlement}
@@ -47,7 +48,7 @@ module _ (p : ℕ) (cs : List Contract) where
 
   -- `after` is the bit that was looked at, the month's own where the month is one of the 48
   pub left_next : (first from i traded after : ℕ) → i < length cs → first ≤ from → from ≤ (get_or cs i no_contract).month
-      → ((d : ℕ) → d < 48 → traded / 2 ^ d % 2 ≡ 1 → is_traded p (first + d) ≡ true)
+      → ((d : ℕ) → d < 48 → eqb (traded / 2 ^ d % 2) 1 ≡ is_traded p (first + d))
       → ((get_or cs i no_contract).month < first + 48 → first + after ≡ (get_or cs i no_contract).month)
       → (traded / 2 ^ after % 2 ≡ 0 → ⊥)
       → Left first from i → Left first ((get_or cs i no_contract).month + 1) (i + 1)
@@ -56,7 +57,7 @@ module _ (p : ℕ) (cs : List Contract) where
       let m = (get_or cs i no_contract).month in
       let at : first + after ≡ m = own (omega (arith, near)) in
       let one : traded / 2 ^ after % 2 ≡ 1 = omega (arith, bit) in
-      let is : is_traded p m ≡ true = rw at at (bits after (omega (arith, near, at)) one) in
+      let is : is_traded p m ≡ true = rw at at (sym (bits after (omega (arith, near, at))) ∙ eq-eqb _ 1 one) in
       left (omega (arith, near, l)) (λ j k. settled j (omega (arith, k)))
       ∙ sound_goes_on cs i p from h (rw (le-leb from m l, is, settled i (omega arith)))
 

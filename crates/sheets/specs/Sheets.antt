@@ -1,7 +1,6 @@
 -- What a sheet of the book means: the Record's contracts within its count.
-use Rattle.std.specs.Prelude.{ℕ, ◌+◌, ◌≤◌, ◌≡◌, Bool, true, cond, List, map, leb, eqb, length, take, replicate, Option, Some, None}
-use Rattle.std.specs.List.{AllZip}
-use Rattle.grain.specs.Lists.{◌and◌, every, is_ascending, distance}
+use Rattle.std.specs.Prelude.{ℕ, ◌+◌, ◌≡◌, Bool, cond, List, map, leb, eqb, length, take, replicate, Option, Some, None}
+use Rattle.grain.specs.Lists.{◌and◌, every, is_ascending}
 use Rattle.grain.specs.Products.{is_traded}
 use Rattle.grain.specs.Prices.{is_settlement}
 use Rattle.record.specs.declared.Contract.{Contract}
@@ -42,13 +41,3 @@ pub record SheetOf (months settlements : List ℕ) (s : Sheet) : Type 0 where
 abbrev pub are_sound_contracts : ℕ → List Contract → Bool
 are_sound_contracts p cs =
     is_ascending (months_of cs) and every (is_traded p) (months_of cs) and every (is_settlement p) (settlements_of cs)
-
--- A contract after the one of the same month before it: its settlement is on the standard tick and moved by at most the limit.
-pub record IsPlainlyAfter (p limit : ℕ) (before c : Contract) : Type 0 where
-  pub month : c.month ≡ before.month
-  pub settled : is_settlement p c.settlement ≡ true
-  pub near : distance c.settlement before.settlement ≤ limit
-
--- every contract so after the one in its place on the last ended sheet, which has as many
-abbrev pub PlainlyAfter : ℕ → ℕ → List Contract → List Contract → Type 0
-PlainlyAfter p limit last today = AllZip (IsPlainlyAfter p limit) last today

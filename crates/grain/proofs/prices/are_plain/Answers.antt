@@ -14,4 +14,4 @@ loop-price-preserved c =
 pub returns : goal.returns
 returns c =
     λ e. every_at (is_on_tick c.args.tick) c.args.prices.now
-    (λ j h. c.are_joined_on_tick.ensures e _ (c.loop-price.invariant j (omega (arith, h, c.loop-price-test.false))))
+    (λ j h. c.are_joined_on_tick.ensures.accepts e _ (c.loop-price.invariant j (omega (arith, h, c.loop-price-test.false))))

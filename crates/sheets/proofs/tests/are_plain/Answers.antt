@@ -30,5 +30,5 @@ pub returns : goal.returns
 returns c =
     let inv = c.loop-contract.invariant in
     λ e. left_end c.args.product c.args.contracts.now _ _ c.loop-contract.contract-index c.loop-contract-test.false c.if-first-from.false
-    (λ j h. rw (← c.tick-tick.ensures) (c.are_joined_on_tick.ensures e _ (inv.2 j h)))
+    (λ j h. rw (← c.tick-tick.ensures) (c.are_joined_on_tick.ensures.accepts e _ (inv.2 j h)))
     inv.1

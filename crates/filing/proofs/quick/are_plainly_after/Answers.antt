@@ -8,8 +8,8 @@ use Rattle.std.proofs.lemmas.Slice.Zip.{zip_turn, zip_end}
 use Rattle.grain.specs.Lists.{distance}
 use Rattle.grain.proofs.Tests.{&&-left, &&-right}
 use Rattle.sheets.specs.Sheets.{no_contract}
-use Rattle.sheets.proofs.After.{near_next, all_near}
-use Rattle.sheets.proofs.changes.are_plainly_after.Goals as goal
+use Rattle.filing.proofs.After.{near_next, all_near}
+use Rattle.filing.proofs.quick.are_plainly_after.Goals as goal
 
 pub loop-before-init : goal.loop-before-init
 loop-before-init c = (λ e. (eqb-true _ _ e, λ j h. absurd (omega (arith, h))), λ j h. absurd (omega (arith, h)))
@@ -49,4 +49,4 @@ returns-then-plain c =
     zip_end earlier cs at.yielded c.into_iter-before-iterator.result at.before-iterator c.next.new.self c.next.result (search rules) (search rules) at.yielded_by
     c.in-None.is c.next.ensures.steps in
     λ e. all_near c.args.product c.args.limit earlier cs (length at.yielded) near.0 (omega (arith, end, near.0)) near.1
-    (λ j h. rw (← c.tick-tick.ensures) (c.are_joined_on_tick.ensures e _ (at.invariant.1 j h)))
+    (λ j h. rw (← c.tick-tick.ensures) (c.are_joined_on_tick.ensures.accepts e _ (at.invariant.1 j h)))

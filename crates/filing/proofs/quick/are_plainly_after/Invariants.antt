@@ -1,7 +1,7 @@
 use Rattle.std.proofs.Common.{◌≡◌, true, length}
 use Rattle.sheets.proofs.Plain.{Joined}
-use Rattle.sheets.proofs.After.{Near}
-use Rattle.sheets.proofs.changes.are_plainly_after.Given as goal
+use Rattle.filing.proofs.After.{Near}
+use Rattle.filing.proofs.quick.are_plainly_after.Given as goal
 
 abbrev pub invariant-loop-before : goal.invariant-loop-before
 invariant-loop-before l =

@@ -8,7 +8,8 @@ use borrow.Author.Count.{below_more}
 use Rattle.std.specs.List.{AllZip}
 use Rattle.grain.specs.Lists.{distance}
 use Rattle.record.specs.declared.Contract.{Contract}
-use Rattle.sheets.specs.Sheets.{no_contract, IsPlainlyAfter, PlainlyAfter}
+use Rattle.sheets.specs.Sheets.{no_contract}
+use Rattle.filing.specs.Plain.{IsPlainlyAfter, PlainlyAfter}
 use Rattle.sheets.proofs.Plain.{Settled}
 
 -- the first i contracts have the earlier ones' months, and are at most the limit from them
