@@ -8,7 +8,7 @@ use Rattle.sheets.specs.Sheets.{sheet_in}
 use Rattle.book.specs.declared.Book.{Book}
 use Rattle.book.specs.Book.{limit_in, today_in, last_in, view_product}
 use Rattle.book.specs.Numbers.{all_products}
-use Rattle.book.specs.Soundness.{is_limit_sound, are_settlements_sound}
+use Rattle.book.specs.Soundness.{is_sound_limit, are_settlements_sound}
 use Rattle.book.proofs.Everies.{every_same, every_both}
 
 -- only a product has a fit amount
@@ -19,6 +19,9 @@ fit_product p amount = go (is_product p) (leb (floor_of p) amount) (leb amount 2
     go : (b x y z : Bool) → (b and (b && x && y && z)) ≡ (b && x && y && z)
     go true x y z = refl
     go false x y z = refl
+
+abbrev pub is_limit_sound : Book → ℕ → Bool
+is_limit_sound b p = is_sound_limit p (limit_in b p)
 
 first_apart : (f w s t : Bool) → f and w and s and t ≡ f and (w && s && t)
 unfolding ◌and◌

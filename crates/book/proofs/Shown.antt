@@ -17,9 +17,9 @@ use Rattle.sheets.specs.Sheets.{sheet_in}
 use Rattle.book.specs.declared.Book.{Book}
 use Rattle.book.specs.Book.{no_sheet, no_standing, is_set, is_book, edition_in, opened_in, standing_in, today_in, last_in, level_of, view_product, view_group, view_groups, view_common, view}
 use Rattle.book.specs.Numbers.{all_products, all_groups}
-use Rattle.book.specs.Soundness.{is_limit_sound, are_settlements_sound, is_there, is_missing, are_last_sound, is_mark_sound}
+use Rattle.book.specs.Soundness.{are_settlements_sound, is_there, is_missing, are_last_sound, is_mark_sound}
 use Rattle.book.proofs.Everies.{and_assoc, every_both, every_concat}
-use Rattle.book.proofs.ProductTests.{products_split}
+use Rattle.book.proofs.ProductTests.{is_limit_sound, products_split}
 use Rattle.book.proofs.Items.{every_place}
 use Rattle.book.proofs.Views.{shown_group, groups_are}
 

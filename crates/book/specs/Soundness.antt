@@ -12,7 +12,7 @@ use Rattle.sheets.specs.declared.sheet.Sheet.{Sheet}
 use Rattle.sheets.specs.Sheets.{sheet_in}
 use Rattle.book.specs.declared.standing.Standing.{Standing}
 use Rattle.book.specs.declared.Book.{Book}
-use Rattle.book.specs.Book.{is_set, limit_in, window_of, today_in, last_in}
+use Rattle.book.specs.Book.{is_set, window_of, today_in, last_in}
 use Rattle.book.specs.Numbers.{all_products}
 
 abbrev pub is_there : Sheet → Bool
@@ -36,10 +36,6 @@ is_mark_sound marks s = not (is_set s.marked) || (is_set s.expanded && marks)
 -- fit, with its own E
 abbrev pub is_sound_limit : ℕ → Limit → Bool
 is_sound_limit p limit = is_fit_amount p limit.initial and eqb limit.expanded (expanded_of p limit.initial)
-
--- of a product
-abbrev pub is_limit_sound : Book → ℕ → Bool
-is_limit_sound b p = is_sound_limit p (limit_in b p)
 
 -- a product's window and its two sheets
 abbrev pub are_settlements_sound : Book → ℕ → Bool

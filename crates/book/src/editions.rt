@@ -1,5 +1,5 @@
 // The editions of the rule that a book can be founded under, by year.
-// Numbers, as callers have them: any other is refused with 17 at a founding, and with 1 in an image.
+// Numbers, as callers have them: any other is refused with 17 at a founding, and with 1 in a book.
 ghost use Rattle.std.specs.Prelude.{◌≡◌};
 ghost use Rattle.record.specs.Edition.{is_edition, conditions_of};
 

@@ -24,8 +24,8 @@ pub use shape::FORMAT;
 pub use soundness::is_true_day;
 pub use standing::Standing;
 
-// The book of include/botskhela.h, as C keeps it. C can lend any content: one of another format, or with a flag that is none, is shown as
-// of no edition, and soundness judges the rest.
+// What a call looks at of the struct of include/botskhela.h, its first part, as C keeps it.
+// C can lend any content: one of another format, or with a flag that is none, is shown as of no edition, and soundness judges the rest.
 #[repr(C)]
 #[derive(Clone, Copy, Debug, PartialEq, Eq)]
 pub struct Book {

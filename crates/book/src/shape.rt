@@ -1,4 +1,4 @@
-// What the words of a book say that are no numbers: its format, its flags, and whether there is a last opened day.
+// What the numbers of a book say that are no amounts: its format, its flags, and whether there is a last opened day.
 ghost use Rattle.std.specs.Prelude.{◌≡◌};
 ghost use Rattle.std.specs.List.{list_all};
 ghost use Rattle.book.specs.Book.{is_standing, is_book, is_set, opened_in};

@@ -96,7 +96,7 @@ fn are_settlements_sound(b: &Book, p: usize) -> bool
 fn are_products_sound(b: &Book) -> bool
     ensures { result ≡ every (are_settlements_sound b.now) all_products }
 {
-    // No chain: with `all` a check takes 3% more instructions.
+    // No chain: the compiler makes more instructions of `all` (docs/MEASURED.md).
     for p in 0..PRODUCT_COUNT {
         if !are_settlements_sound(b, p) {
             return false;
@@ -138,7 +138,7 @@ impl Book {
         are_there(&self.today)
     }
 
-    // No sheet is in while no day is open.
+    // Every field in its range, and the parts in agreement.
     #[tactic(auto, using(crate::proofs::Shown::sound_tests))]
     pub fn is_sound(&self) -> bool
         ensures { result ≡ is_sound (view self.now) }

@@ -1,4 +1,4 @@
--- What an end promises, whatever the book; and what it does to a group's standing, a product's limits and its window.
+-- What an end promises, whatever the book; and what it does to a group's standing and a product's limits.
 use Rattle.std.specs.Prelude.{ℕ, Bool, ◌&&◌, cond, List, get_or, Result}
 use Rattle.std.specs.List.{list_any}
 use Rattle.grain.specs.Amounts.{expanded_of}

@@ -1,9 +1,15 @@
 -- Lists of calls on a struct as lists of calls on the book in it, proved; and what a struct with no book of this format in it answers.
-use Rattle.std.proofs.Common.{ℕ, ◌≡◌, refl, ◌∙◌, ap, List, ◌∷◌, Option, Some, None}
+use Rattle.std.proofs.Common.{ℕ, ◌<◌, ◌≡◌, refl, sym, ◌∙◌, ap, arith, not, eqb, List, [], ◌∷◌, Option, Some, None}
+use Rattle.grain.specs.Lists.{every}
+use Rattle.grain.specs.Check.{span_in}
+use Rattle.grain.specs.declared.check.Span.{Span}
+use Rattle.grain.specs.declared.check.Verdict.{Verdict}
+use Rattle.grain.specs.declared.check.Verdict.TheVariants.{Within, Below, Above}
 use Rattle.record.specs.Refusals.{unsound}
 use Rattle.record.specs.State.{Record}
 use Rattle.record.specs.Founding.{Start, founding_refusal, founded}
-use Rattle.record.specs.Record.{Change, Question, check, Call, change, question, refusal, answer, answer_by, respond, ask, answers}
+use Rattle.record.specs.Record.{Change, Question, check, Call, change, question, checked, Answer, accepted, refusal, answer, answer_by, respond, ask, answers}
+use Rattle.record.specs.Theorems.{is_refusal}
 use Rattle.book.specs.Book.{view}
 use Rattle.book.specs.Calls.{Responds}
 use Rattle.book.proofs.SoundnessFirst.{unsound-refusal}
@@ -12,10 +18,12 @@ use Rattle.history.specs.Step.{Step}
 use Rattle.history.specs.Step as step
 use Rattle.history.specs.Trace.{Trace, done, more}
 use Rattle.history.specs.Whole.{Run}
+use Rattle.history.proofs.Proved.{whole_history}
+use Rattle.checking.specs.Checks.{book_answer}
 use Rattle.gateway.specs.declared.image.EventWords.{EventWords}
 use Rattle.gateway.specs.declared.image.Image.{Image}
-use Rattle.gateway.specs.Calls.{answer_number, renewed_after, events_after, answer_to, RespondsImage, with_span, no_renewed, no_events}
-use Rattle.gateway.specs.Images.{Seen, sees, seen_of, ImageStep, changes, asks, ImageRun, ImagesAsBooks, NoImage}
+use Rattle.gateway.specs.Calls.{answer_number, renewed_after, events_after, answer_to, RespondsImage, answer_span, with_span, no_renewed, no_events}
+use Rattle.gateway.specs.Images.{Seen, sees, seen_of, ImageStep, changes, asks, ImageRun, ResentImage, ImagesAsBooks, NoImage}
 use Rattle.gateway.proofs.Numbers.{number_of, accepted_by}
 
 -- ---- one call
@@ -100,8 +108,40 @@ module _ (s : Start) (cs : List Call) (vs : List Seen) (z : Image) (run : ImageR
   seen : vs ≡ seen_of no_renewed no_events (answers (founded s) cs)
   seen = rw (← fresh_is, ← (run.founds.renewed is_founded), ← (run.founds.events is_founded)) (listed run.trace).seen
 
+  -- a verdict with a span, sent again at its ends
+  module _ (p size month price : ℕ) where
+    at_ends : (v : Verdict) (a : Span) → book_answer z.book p size month price ≡ accepted (checked v) → span_in v ≡ Some a
+        → ResentImage z p size month (with_span (accepted (checked (Within a))))
+    at_ends v a e has =
+        let r = whole_history.resent s cs _ z.book runs p size month price v a (sym e) has in
+        record { at_lowest = ap with_span r.at_lowest; at_highest = ap with_span r.at_highest }
+
+    resends : (a : Answer) → book_answer z.book p size month price ≡ a → 0 < (answer_span a).lowest → ResentImage z p size month (with_span a)
+    resends (accepted (checked (Within a))) e l = at_ends (Within a) a e refl
+    resends (accepted (checked (Below a))) e l = let r = at_ends (Below a) a e refl in record { at_lowest = r.at_lowest; at_highest = r.at_highest }
+    resends (accepted (checked (Above a))) e l = let r = at_ends (Above a) a e refl in record { at_lowest = r.at_lowest; at_highest = r.at_highest }
+    resends a e l = absurd (omega arith)
+
+-- no number is 1 where no answer is refusal 1
+numbers_are : (rs : List ℕ) (es : List EventWords) (l : List Answer)
+    → every (λ v. not (eqb v.number unsound)) (seen_of rs es l) ≡ every (λ a. not (is_refusal unsound a)) l
+unfolding every seen_of
+numbers_are rs es [] = refl
+numbers_are rs es (a ∷ l) = rw (number_of unsound (omega arith) (omega arith) a, numbers_are (renewed_after a rs) (events_after a es) l)
+
 pub images_as_books : ImagesAsBooks
-images_as_books = record { runs = runs; seen = seen; refusals = number_of }
+images_as_books =
+    record {
+      runs = runs;
+      seen = seen;
+      never_unsound = λ s cs vs z run.
+          ap (every (λ v. not (eqb v.number unsound))) (seen s cs vs z run)
+          ∙ numbers_are no_renewed no_events (answers (founded s) cs)
+          ∙ whole_history.never_unsound s cs _ z.book (runs s cs vs z run);
+      spanned = λ s cs vs z run p size month price.
+          ap (λ (r : Record). with_span (ask r (check p size month price))) (whole_history.contents s cs _ z.book (runs s cs vs z run));
+      resent = λ s cs vs z run p size month price. resends s cs vs z run p size month price _ refl;
+    }
 
 -- ---- a struct with no book of this format in it
 pub no_image : NoImage

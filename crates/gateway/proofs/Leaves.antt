@@ -3,18 +3,16 @@ use Rattle.std.proofs.Common.{ℕ, ◌≡◌, refl, sym, ◌∙◌, ap, List}
 use Rattle.std.specs.Prelude.{Option, Some, None, Result, Ok, Err}
 use Rattle.grain.specs.Refusals.{number_of}
 use Rattle.grain.specs.declared.refusals.Refusal.{Refusal}
-use Rattle.record.specs.Founding.{Start}
 use Rattle.record.specs.Record.{Change, convert, change, Accepted, converted, refused, accepted, refusal, answer, respond}
 use Rattle.record.proofs.AnswerBy.{accepted_with}
 use Rattle.book.specs.declared.Book.{Book}
 use Rattle.book.specs.Book.{view}
 use Rattle.book.specs.Calls.{Responds, answer_as}
-use Rattle.book.specs.Founding.{Founds}
 use Rattle.converting.specs.Converts.{Converts}
 use Rattle.converting.proofs.Conversions.{stays}
 use Rattle.gateway.specs.declared.image.EventWords.{EventWords}
 use Rattle.gateway.specs.declared.image.Image.{Image}
-use Rattle.gateway.specs.Calls.{answer_number, number_in, renewed_after, events_after, RespondsImage, ConvertsImage, fresh_image, FoundsImage}
+use Rattle.gateway.specs.Calls.{answer_number, number_in, renewed_after, events_after, RespondsImage, ConvertsImage}
 
 abbrev pub with_book : Image → Book → Image
 with_book i b = record { book = b; renewed = i.renewed; events = i.events }
@@ -66,12 +64,3 @@ converts_image i z result r =
     go : i.book.edition ≡ 2023 → (o : Option ℕ) → refusal (view i.book) (change convert) ≡ o → with_book i z ≡ i
     go e (Some n) is = ap (with_book i) (r.responds.unchanged n is)
     go e None is = ap (with_book i) (r.book is ∙ stays i.book e)
-
--- a founding
-pub founded_image : (i : Image) (s : Start) (b : Book) → Founds s (Ok b) → FoundsImage i s 0 (fresh_image b)
-founded_image i s b f =
-    record { number = rw f.0; state = λ e. f.1; renewed = λ e. refl; events = λ e. refl; unchanged = λ m e. cc (f.0, e) }
-
-pub unfounded_image : (i : Image) (s : Start) (r : Refusal) → Founds s (Err r) → FoundsImage i s (number_of r) i
-unfounded_image i s r f =
-    record { number = rw f; state = λ e. cc (f, e); renewed = λ e. cc (f, e); events = λ e. cc (f, e); unchanged = λ m e. refl }

@@ -20,10 +20,11 @@ pub use image::{EventWords, Image};
 pub use laws::{
     bare_through_one_tally, images_as_books, images_through_one_tally, no_image, zero_accepts,
 };
-pub use lists::respond;
+pub use lists::{respond, respond_span};
 pub use spans::{Spanned, botskhela_bare_highest, botskhela_bare_lowest, botskhela_check_span};
 pub use tallied::{botskhela_tallied_book_check, botskhela_tallied_check};
 
+// On plain numbers, as a gateway has them: it keeps no book.
 #[unsafe(no_mangle)]
 pub extern "C" fn botskhela_bare_check(
     product: u32,

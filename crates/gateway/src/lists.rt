@@ -1,4 +1,5 @@
 // Any call of the lists, made as a C program makes it.
+ghost use Rattle.record.specs.Record.{check, question};
 ghost use Rattle.history.specs.Calls.{call_as};
 ghost use Rattle.gateway.specs.Images.{sees, ImageStep};
 
@@ -6,7 +7,8 @@ use crate::calls::{
     botskhela_check, botskhela_convert, botskhela_end, botskhela_open, botskhela_sheet,
 };
 use crate::image::Image;
-use history::Call;
+use crate::spans::{Spanned, botskhela_check_span};
+use history::{Call, Order};
 
 // No program calls it: by its contract the prover ties what is shown of lists to the exported functions.
 pub fn respond(image: &mut Image, call: Call<'_>) -> u32
@@ -19,4 +21,11 @@ pub fn respond(image: &mut Image, call: Call<'_>) -> u32
         Call::Convert => botskhela_convert(image),
         Call::Check(o) => botskhela_check(image, o.product, o.size, o.month, o.price),
     }
+}
+
+// A check with its span, which is a check of the lists too.
+pub fn respond_span(image: &Image, o: Order) -> Spanned
+    ensures { ImageStep image.now (question (check o.product o.size o.month o.price)) (sees result.answer image.now) image.now }
+{
+    botskhela_check_span(image, o.product, o.size, o.month, o.price)
 }

@@ -1,6 +1,6 @@
 -- Five years of the months traded as bits, held to the lists of months.
 use Prim.Native.Nat.{ℕ, ◌+◌, ◌*◌, ◌/◌, ◌%◌, ◌^◌, ◌<◌}
-use mathlib.Core.Path.{◌≡◌, refl, sym, ◌∙◌}
+use mathlib.Core.Path.{◌≡◌, refl, ◌∙◌}
 use mathlib.Core.Bool.{Bool, true, beq}
 use native.Mathlib.Omega.{arith}
 use lib.Dec.{eqb}

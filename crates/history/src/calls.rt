@@ -63,8 +63,7 @@ pub fn respond(b: &mut Book, call: Call<'_>) -> Result<Reply, Refusal>
     }
 }
 
-// Makes calls in order, as long as there is a place for what the next is answered: of a list that has as many places all are made, however
-// many they are, as no memory can give out.
+// Makes calls in order, as many as there are places for their answers.
 pub fn run(b: &mut Book, calls: &[Call<'_>], replies: &mut [Result<Reply, Refusal>])
     ensures { Runs b.old calls.now replies.old replies.new b.new }
 {

@@ -1,4 +1,4 @@
-// The new limits of the products at an opening.
+// The new limits of the products at an opening, and the windows that it empties.
 ghost use Rattle.std.specs.Prelude.{◌≡◌, true, false, cond, ℕ, ◌<◌, get_or, unwrap_or, None, is_some};
 ghost use Rattle.grain.specs.Lists.{every};
 ghost use Rattle.grain.specs.Prices.{is_settlement};

@@ -40,7 +40,8 @@ raising true mss = concat_map (keep is_at_expanded) mss
 raising false mss = []
 
 -- from the moves of each product: an event's candidates are found in each, and are led together
--- there is a leading contract, and with it the event, exactly where some contract meets the event's condition
+-- there is a leading contract, and with it the event, exactly where some contract meets the event's condition,
+-- to trigger under 2014 where those of a product are enough
 unfoldable pub event_of : Conditions → Level → Bool → List (List Move) → Event
 event_of k initial mark mss = led_by (leading (concat_map (triggering k) mss)) Triggered Quiet
 event_of k expanded mark mss =

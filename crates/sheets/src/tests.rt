@@ -89,7 +89,7 @@ impl Sheet {
             .all(|c| grain::is_on_tick(tick, c.settlement))
     }
 
-    // Three of these tests in one loop: a book's soundness asks them of 16 sheets at every call.
+    // Three of these tests in one loop, which decides where the quick test says nothing.
     fn are_sound(&self, product: u32) -> bool
         ensures { result ≡ are_sound_contracts product (entries_of self.now) }
     {

@@ -4,7 +4,7 @@ use mathlib.Core.Bool.{false≢true}
 use native.Mathlib.Nat.{add-sub_cancel_left}
 use lib.Seq.{take_all, take-suc-set, drop-append-le, length-take-le, take-append_seam, take_at, drop_at, get_or-set_same, get_or-set_other}
 use borrow.Rule.Slice.PartMut.{mid_of, put_mid, drop_put}
-use borrow.Author.Tests.{le-leb, lt-ltb, lt-leb, le-ltb, leb-true, leb-false}
+use borrow.Author.Tests.{le-leb, lt-ltb, le-ltb}
 use Rattle.std.proofs.lemmas.List.{drop-take, take-append-le}
 use Rattle.record.specs.Window.{collect}
 use Rattle.windows.specs.declared.Windows.{Windows}
@@ -98,12 +98,18 @@ damaged ws p v e =
     go false = refl
 
 -- ---- an emptied window
-pub empties : (ws : Windows) (p : ℕ) → length ws.sizes ≡ 8 → p < 8 → Empties ws p (record { sizes = set ws.sizes p 0; settlements = ws.settlements })
+-- whatever is put in its places
+pub empties : (ws : Windows) (p : ℕ) (places : List ℕ) → length ws.sizes ≡ 8 → length ws.settlements ≡ 360 → p < 8 → length places ≡ 45
+    → Empties ws p (record { sizes = set ws.sizes p 0; settlements = put_mid (45 * p) (45 * p + 45 - 45 * p) ws.settlements places })
 unfolding shown kept_of
-empties ws p many l =
+empties ws p places many long l whole =
     let size : get_or (set ws.sizes p 0) p 0 ≡ 0 = get_or-set_same ws.sizes p 0 0 (omega arith) in
-    record { own = rw size; others = λ q ne. let same = get_or-set_other ws.sizes p q 0 0 ne in (same, rw same) }
+    record {
+      own = rw size;
+      others = others ws p 0 0 places many long l whole;
+      unchanged = λ no. absurd (false≢true (sym no ∙ lt-ltb p 8 l));
+    }
 
 pub none_empties : (ws : Windows) (p : ℕ) → length ws.sizes ≡ 8 → 8 ≤ p → Empties ws p ws
 unfolding shown
-none_empties ws p many l = record { own = rw (no_size ws p many l) (none_kept ws p many l); others = λ q ne. (refl, refl) }
+none_empties ws p many l = record { own = rw (no_size ws p many l) (none_kept ws p many l); others = λ q ne. (refl, refl); unchanged = λ no. refl }

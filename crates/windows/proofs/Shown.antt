@@ -30,14 +30,6 @@ module _ (ws : Windows) (p : ℕ) where
     unfolding kept_of
     none_kept l = rw (no_size l)
 
-    -- a size beyond 0 is a product's
-    pub has_size : 0 < size_in ws p → p < 8
-    has_size h = go (leb 8 p) refl
-      where
-        go : (b : Bool) → leb 8 p ≡ b → p < 8
-        go true e = let none = no_size (leb-true _ _ e) in absurd (omega arith)
-        go false e = leb-false _ _ e
-
   module _ (many : length ws.sizes ≡ 8) (long : length ws.settlements ≡ 360) where
     pub places_long : p < 8 → length (places_of ws p) ≡ 45
     places_long l = length-take-le 45 (drop (45 * p) ws.settlements) (rw (length-drop, long) (omega arith))

@@ -41,6 +41,8 @@ pub record Collects (ws : Windows) (p v : ℕ) (r : Windows) : Type 0 where
   pub others : OthersKept ws p r
   pub unchanged : can_collect ws p ≡ false → r ≡ ws
 
+-- where there is no such product, all stay the very windows
 pub record Empties (ws : Windows) (p : ℕ) (r : Windows) : Type 0 where
   pub own : shown r p ≡ []
   pub others : OthersKept ws p r
+  pub unchanged : ltb p product_count ≡ false → r ≡ ws

@@ -117,12 +117,16 @@ impl Windows {
         self.sizes[p] = put(&mut self.settlements[from..to], self.sizes[p], settlement);
     }
 
-    // A product's window without settlements.
+    // A product's window without settlements: zeros in its places, as in a window that never had any.
     pub fn empty(&mut self, p: usize)
         ensures { Empties self.old p self.new }
     {
-        if p < PRODUCT_COUNT {
-            self.sizes[p] = 0;
+        if PRODUCT_COUNT <= p {
+            return;
         }
+        let from = WINDOW_LENGTH * p;
+        let to = from + WINDOW_LENGTH;
+        self.settlements[from..to].fill(0);
+        self.sizes[p] = 0;
     }
 }

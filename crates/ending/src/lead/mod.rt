@@ -35,7 +35,11 @@ impl GroupMoves<'_> {
     // Of one product, by its number.
     fn of_product(&self, p: usize) -> ProductMoves<'_>
         requires { p < product_count }
-        ensures { (result.product ≡ p) × (result.limit ≡ limit_in self.now.day.book.now p) × (result.today.now ≡ today_in self.now.day.book.now p) × (result.last.now ≡ last_in self.now.day.book.now p) × (result.date ≡ self.now.day.date) }
+        ensures product { result.product ≡ p }
+        ensures limit { result.limit ≡ limit_in self.now.day.book.now p }
+        ensures today { result.today.now ≡ today_in self.now.day.book.now p }
+        ensures last { result.last.now ≡ last_in self.now.day.book.now p }
+        ensures date { result.date ≡ self.now.day.date }
     {
         let book = self.day.book;
         ProductMoves {

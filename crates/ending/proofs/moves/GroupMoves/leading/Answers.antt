@@ -49,5 +49,5 @@ returns-then-meet c =
     let a = c.args in
     let m = a.self.now in
     let clear = rw c.in-Some.is at (ahead (goal.at.returns-then-meet c).After-next_month) in
-    rw (← (stand_together m.group m.numbered), c.of_product-moves.ensures.0)
+    rw (← (stand_together m.group m.numbered), c.of_product-moves.ensures.product)
     (sym (this_leads m.day.book.now m.day.date a.condition _ _ (before_next m.group m.numbered) (before_small m.group m.numbered) m.day.readable c.in-Some.next c.in-Some-p.p clear (search rules) (search rules) (search rules) (search rules)))
