@@ -91,14 +91,15 @@ pub fn is_traded(product: u32, month: u32) -> bool
 // The months that the product trades in, from a contract month on: bit d is the month d after it, for the next 48. None where there is no such
 // product.
 pub fn traded_from(product: u32, month: u32) -> u64
-    ensures { (d : ℕ) → d < 48 → eqb (result / 2 ^ d % 2) 1 ≡ is_traded product (month + d) }
+    ensures fits { result < 2 ^ 48 }
+    ensures months { (d : ℕ) → d < 48 → eqb (result / 2 ^ d % 2) 1 ≡ is_traded product (month + d) }
 {
     if PRODUCTS <= product {
         return 0;
     }
     // Five years from a January on, of which less than one is before the month.
     let years = MONTHS[product as usize] as u64 * 0x1001001001001;
-    years >> (month % 12)
+    (years >> (month % 12)) % 0x1000000000000
 }
 
 // Whether a contract month is the last of the product's crop year.

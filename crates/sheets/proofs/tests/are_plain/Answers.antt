@@ -21,7 +21,7 @@ loop-contract-preserved c =
     let i = c.loop-contract.contract-index in
     let inv = c.loop-contract.invariant in (
       omega (arith, inv.0, c.if-month-from.false),
-      left_next c.args.product c.args.contracts.now _ _ i _ _ c.loop-contract-test.true inv.0 c.if-month-from.false c.traded_from-traded.ensures
+      left_next c.args.product c.args.contracts.now _ _ i _ _ c.loop-contract-test.true inv.0 c.if-month-from.false c.traded_from-traded.ensures.months
           (λ h. omega (arith, h, inv.0, c.if-month-from.false)) c.if-traded-after-eq0.false inv.1,
       below_more _ i (λ j h. c.join-joined.ensures.still _ (inv.2 j h)) c.join-joined.ensures.now,
     )
