@@ -20,7 +20,7 @@ fn new_limit(change: SeasonChange, p: u32, windows: &Windows) -> Option<Limit>
     if !change.renews {
         return None;
     }
-    windows.season_limits(p).ok()
+    windows.season_limits(p as usize).ok()
 }
 
 pub(crate) fn new_limits(change: SeasonChange, windows: &Windows) -> [Option<Limit>; PRODUCT_COUNT]

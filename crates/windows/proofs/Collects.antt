@@ -98,15 +98,13 @@ damaged ws p v e =
     go false = refl
 
 -- ---- an emptied window
--- whatever is put in its places
-pub empties : (ws : Windows) (p : ℕ) (places : List ℕ) → length ws.sizes ≡ 8 → length ws.settlements ≡ 360 → p < 8 → length places ≡ 45
-    → Empties ws p (record { sizes = set ws.sizes p 0; settlements = put_mid (45 * p) (45 * p + 45 - 45 * p) ws.settlements places })
+pub empties : (ws : Windows) (p : ℕ) → length ws.sizes ≡ 8 → p < 8 → Empties ws p (record ws { sizes = set ws.sizes p 0 })
 unfolding shown kept_of
-empties ws p places many long l whole =
+empties ws p many l =
     let size : get_or (set ws.sizes p 0) p 0 ≡ 0 = get_or-set_same ws.sizes p 0 0 (omega arith) in
     record {
       own = rw size;
-      others = others ws p 0 0 places many long l whole;
+      others = λ q ne. let same : get_or (set ws.sizes p 0) q 0 ≡ get_or ws.sizes q 0 = get_or-set_other ws.sizes p q 0 0 ne in (same, rw same);
       unchanged = λ no. absurd (false≢true (sym no ∙ lt-ltb p 8 l));
     }
 

@@ -89,17 +89,16 @@ impl Windows {
     }
 
     // The season limits that a product's full window gives.
-    pub fn season_limits(&self, product: u32) -> Result<Limit, Refusal>
-        ensures { season_limits_as result ≡ season_limits product (shown self.now product) }
+    pub fn season_limits(&self, p: usize) -> Result<Limit, Refusal>
+        ensures { season_limits_as result ≡ season_limits p (shown self.now p) }
     {
-        if !grain::is_product(product) {
+        if PRODUCT_COUNT <= p {
             return Err(Refusal::NoSuchProduct);
         }
-        let p = product as usize;
         if !self.is_full(p) {
             return Err(Refusal::Misshapen);
         }
-        grain::season_limits(product, self.kept(p))
+        grain::season_limits(p as u32, self.kept(p))
     }
 
     // One settlement more, after which the window has the last 45. Where there is no such product, or its size is damaged, all stays as it is.
@@ -117,16 +116,13 @@ impl Windows {
         self.sizes[p] = put(&mut self.settlements[from..to], self.sizes[p], settlement);
     }
 
-    // A product's window without settlements: zeros in its places, as in a window that never had any.
+    // A product's window without settlements; what stood in its places is no part of it any more.
     pub fn empty(&mut self, p: usize)
         ensures { Empties self.old p self.new }
     {
         if PRODUCT_COUNT <= p {
             return;
         }
-        let from = WINDOW_LENGTH * p;
-        let to = from + WINDOW_LENGTH;
-        self.settlements[from..to].fill(0);
         self.sizes[p] = 0;
     }
 }

@@ -6,4 +6,4 @@ pub returns-then-p-ge-PRODUCT_COUNT : goal.returns-then-p-ge-PRODUCT_COUNT
 returns-then-p-ge-PRODUCT_COUNT c = none_empties c.args.self.now c.args.p (search rules) c.if-p-ge-PRODUCT_COUNT.true
 
 pub returns : goal.returns
-returns c = empties c.args.self.now c.args.p _ (search rules) (search rules) c.if-p-ge-PRODUCT_COUNT.false (search rules)
+returns c = empties c.args.self.now c.args.p (search rules) c.if-p-ge-PRODUCT_COUNT.false
