@@ -9,6 +9,7 @@ pub mod SheetsIn
 pub mod TradeDates
 pub mod Founded
 pub mod NoBook
+pub mod BookCases
 mod Zeros
 pub mod Views
 pub mod TodaysLimit

@@ -43,7 +43,7 @@ before_groups g h p l =
     beq_same _ _ (below product_count (is_before g) (below group_count (λ (g : ℕ). all_below product_count (is_before g)) refl g h) p l)
 
 -- none is before the first group
-none_before : (p : ℕ) → products_before 0 ≤ p
+pub none_before : (p : ℕ) → products_before 0 ≤ p
 unfolding products_before
 none_before p = omega arith
 
@@ -70,7 +70,7 @@ before_most g = go (ltb g group_count) refl
     go false e = let past = all_before g (ltb-false _ _ e) in omega arith
 
 -- a number from the start of g on and before that of the next group is a product of g
-between : (g p : ℕ) → products_before g ≤ p → p < products_before (g + 1) → group_of p ≡ g
+pub between : (g p : ℕ) → products_before g ≤ p → p < products_before (g + 1) → group_of p ≡ g
 between g p from to =
     let l : p < product_count = omega (arith, before_most (g + 1)) in
     let low : g ≤ group_of p = ltb-false _ _ (sym (in_order g p l) ∙ le-ltb p (products_before g) from) in
@@ -78,7 +78,7 @@ between g p from to =
     omega arith
 
 -- one from the end of the last group on is no product
-past_all : (g p : ℕ) → group_count ≤ g → products_before g ≤ p → group_of p ≡ group_count
+pub past_all : (g p : ℕ) → group_count ≤ g → products_before g ≤ p → group_of p ≡ group_count
 past_all g p h l = no_group_lem p (let all = all_before g h in omega arith)
 
 -- the first of n groups from k on that ends after p

@@ -21,7 +21,7 @@ pub use editions::{EDITION_2014, EDITION_2023, has_marks};
 pub use founding::found;
 pub use groups::{group_of, products_before};
 pub use shape::FORMAT;
-pub use soundness::is_true_day;
+pub use soundness::{are_all_in, is_true_day};
 pub use standing::Standing;
 
 // What a call looks at of the struct of include/botskhela.h, its first part, as C keeps it.

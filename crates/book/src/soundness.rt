@@ -105,7 +105,8 @@ fn are_products_sound(b: &Book) -> bool
     true
 }
 
-fn are_there(sheets: &[Sheet]) -> bool
+// The sheets are there, each of them.
+pub fn are_all_in(sheets: &[Sheet]) -> bool
     ensures { result ≡ list_all is_there sheets.now }
 {
     sheets.iter().all(|s| !s.is_none())
@@ -127,7 +128,7 @@ fn are_last_sound(opened: Option<Day>, last: &[Sheet]) -> bool
     if opened.is_none() {
         return false;
     }
-    are_there(last)
+    are_all_in(last)
 }
 
 impl Book {
@@ -135,7 +136,7 @@ impl Book {
     pub fn are_all_in(&self) -> bool
         ensures { result ≡ are_all_in self.now }
     {
-        are_there(&self.today)
+        are_all_in(&self.today)
     }
 
     // Every field in its range, and the parts in agreement.

@@ -8,7 +8,7 @@ use Rattle.grain.specs.declared.check.Verdict.TheVariants.{Within, Below, Above}
 use Rattle.record.specs.Refusals.{unsound}
 use Rattle.record.specs.State.{Record}
 use Rattle.record.specs.Founding.{Start, founding_refusal, founded}
-use Rattle.record.specs.Record.{Change, Question, check, Call, change, question, checked, Answer, accepted, refusal, answer, answer_by, respond, ask, answers}
+use Rattle.record.specs.Record.{Change, Question, Response, check, Call, change, question, checked, Answer, accepted, refusal, answer, answer_by, respond, ask, answers}
 use Rattle.record.specs.Theorems.{is_refusal}
 use Rattle.book.specs.Book.{view}
 use Rattle.book.specs.Calls.{Responds}
@@ -148,7 +148,7 @@ pub no_image : NoImage
 no_image =
     record {
       changes = λ i now c n no r.
-          (r.number ∙ ap answer_number (no_book_refuses i.book no (change c)), r.unchanged unsound (unsound-refusal (view i.book) (change c) (no_book-unsound i.book no)));
-      checks = λ i p size month price no. ap answer_number (no_book_refuses i.book no (question (check p size month price)));
-      spans = λ i p size month price no. ap with_span (no_book_refuses i.book no (question (check p size month price)));
+          (r.number ∙ ap (λ (r : Response). answer_number r.answer) (no_book_refuses i.book no (change c)), r.unchanged unsound (unsound-refusal (view i.book) (change c) (no_book-unsound i.book no)));
+      checks = λ i p size month price no. ap (λ (r : Response). answer_number r.answer) (no_book_refuses i.book no (question (check p size month price)));
+      spans = λ i p size month price no. ap (λ (r : Response). with_span r.answer) (no_book_refuses i.book no (question (check p size month price)));
     }

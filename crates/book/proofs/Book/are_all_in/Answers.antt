@@ -5,4 +5,4 @@ use Rattle.book.proofs.Items.{every_place}
 use Rattle.book.proofs.Book.are_all_in.Goals as goal
 
 pub returns : goal.returns
-returns c = c.are_there.ensures ∙ sym (every_place is_there 8 c.args.self.now.today no_sheet (search rules))
+returns c = c.are_all_in.ensures ∙ sym (every_place is_there 8 c.args.self.now.today no_sheet (search rules))

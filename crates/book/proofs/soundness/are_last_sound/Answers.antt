@@ -17,4 +17,4 @@ pub returns : goal.returns
 unfolding ◌and◌
 returns c =
     let some : is_some c.args.opened ≡ true = search rules in
-    rw some (c.are_there.ensures ∙ sym (second_fails _ _ (sym c.are_missing.ensures ∙ c.if-are_missing.false)))
+    rw some (c.are_all_in.ensures ∙ sym (second_fails _ _ (sym c.are_missing.ensures ∙ c.if-are_missing.false)))
