@@ -1,5 +1,5 @@
 -- One settlement more in a product's places; and the places of the others.
-use Rattle.std.proofs.Common.{◌≡◌, refl, sym, ◌∙◌, ap, ℕ, ◌+◌, ◌-◌, ◌*◌, ◌<◌, ◌≤◌, Bool, true, false, List, [], ◌∷◌, ◌++◌, length, take, drop, set, get_or, arith, add-one, length-append, length-drop, Some, leb, ltb}
+use Rattle.std.proofs.Common.{◌≡◌, refl, sym, ◌∙◌, ap, ℕ, ◌+◌, ◌-◌, ◌*◌, ◌<◌, ◌≤◌, Bool, true, false, List, length, take, drop, set, get_or, arith, Some, leb, ltb}
 use mathlib.Core.Bool.{false≢true}
 use native.Mathlib.Nat.{add-sub_cancel_left}
 use lib.Seq.{take_all, take-suc-set, drop-append-le, length-take-le, take-append_seam, take_at, drop_at, get_or-set_same, get_or-set_other}
@@ -10,22 +10,6 @@ use Rattle.record.specs.Window.{collect}
 use Rattle.windows.specs.declared.Windows.{Windows}
 use Rattle.windows.specs.Windows.{size_in, places_of, kept_of, shown, can_collect, OthersKept, Collects, Empties}
 use Rattle.windows.proofs.Shown.{shown_fits, no_size, none_kept}
-
--- ---- in the places of one product
-collect_full : (l : List ℕ) (v : ℕ) → length l ≡ 45 → collect l (Some v) ≡ drop 1 l ++ (v ∷ [])
-collect_full l v h = rw (length-append l (v ∷ []), h) (drop-append-le 1 l (v ∷ []) (omega arith))
-
--- at n, a settlement behind the first n
-behind : (xs : List ℕ) (n v : ℕ) → n < length xs → take (n + 1) (set xs n v) ≡ take n xs ++ (v ∷ [])
-behind xs n v h = rw add-one (take-suc-set xs n v h)
-
-pub full : (xs turned : List ℕ) (n v : ℕ) → length xs ≡ 45 → n ≡ 45 → turned ≡ drop 1 xs ++ take 1 xs
-    → take n (set turned 44 v) ≡ collect (take n xs) (Some v)
-full xs turned n v long l e =
-    let rest : length (drop 1 xs) ≡ 44 = simp length-drop (omega arith) in
-    let many : length turned ≡ 45 = rw e (simp length-append (rw rest (ap (λ n. 44 + n) (length-take-le 1 xs (omega arith))))) in
-    let front : take 44 turned ≡ drop 1 xs = rw (e, sym rest) (take-append_seam (drop 1 xs) (take 1 xs)) in
-    rw (l, take_all 45 xs (omega arith), collect_full xs v long) (behind turned 44 v (omega arith) ∙ ap (λ (ys : List ℕ). ys ++ (v ∷ [])) front)
 
 -- ---- in the places of all
 module _ (ws : Windows) (p v n : ℕ) (places : List ℕ) (many : length ws.sizes ≡ 8) (long : length ws.settlements ≡ 360) (l : p < 8) (whole : length places ≡ 45) where

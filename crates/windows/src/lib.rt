@@ -10,6 +10,9 @@ ghost use Rattle.windows.specs.Windows.{size_in, kept_of, shown, empty_windows, 
 
 use grain::{Limit, PRODUCT_COUNT, Refusal, WINDOW_LENGTH};
 
+// The settlements of a full window but the oldest.
+const BUT_OLDEST: usize = WINDOW_LENGTH - 1;
+
 // The places of all products.
 pub const SETTLEMENTS: usize = PRODUCT_COUNT * WINDOW_LENGTH;
 
@@ -33,9 +36,10 @@ fn put(places: &mut [u32], size: u32, settlement: u32) -> u32
 {
     let n = size as usize;
     if n == WINDOW_LENGTH {
-        // The oldest goes round to the last place, which the new one takes.
-        places.rotate_left(1);
-        places[WINDOW_LENGTH - 1] = settlement;
+        // By a copy, since to move them within their places the C library's memmove would be needed.
+        let mut kept = [settlement; WINDOW_LENGTH];
+        kept[..BUT_OLDEST].copy_from_slice(&places[1..]);
+        places.copy_from_slice(&kept);
         return size;
     }
     places[n] = settlement;
