@@ -2,17 +2,16 @@
 use Prim.Native.Nat.{ℕ, ◌<◌, ◌≤◌}
 use mathlib.Core.Path.{◌≡◌, refl, sym, ◌∙◌, ap, subst}
 use mathlib.Core.Bool.{Bool, true, false}
-use mathlib.Core.List.{List}
+use mathlib.Core.List.{List, ◌++◌, append-nil}
 use native.Mathlib.Omega.{arith}
 use lib.Dec.{ltb}
 use lib.ListN.{length, take, length-take}
-use lib.Seq.{take_all}
+use lib.Seq.{take_all, take-append-le}
 use borrow.Author.Tests.{ltb-true, ltb-false}
 use Rattle.std.specs.Prelude.{None, Some, IfSome, Ok, Err, OnOk}
 use Rattle.std.specs.declared.option.Option.{Option}
 use Rattle.std.specs.declared.result.Result.{Result}
-use Rattle.std.specs.Option.{option_map}
-use Rattle.std.specs.Io.KnownBytes.{Appends}
+use Rattle.std.specs.Io.KnownBytes.{Appends, Consumes, IsAtEnd}
 use Rattle.season.specs.LineText.{line_text}
 use Rattle.season.specs.SeasonFile.{season_line}
 use Rattle.grain.specs.Margin.{refused}
@@ -34,11 +33,20 @@ first_bytes_decide file = go (ltb 368 (length file)) refl
         let l : length file ≤ 369 = omega (arith, ltb-false 368 (length file) e) in
         ap season_line (take_all 369 file l)
 
--- what was read of an input decides its line, where it is the first 369 bytes
-pub read_decides : (input : Option (List ℕ)) (read : List ℕ) → IfSome (option_map (take 369) input) (λ first. read ≡ first)
-    → IfSome input (λ file. season_line read ≡ season_line file)
-read_decides None read h = tt
-read_decides (Some file) read h = ap season_line h ∙ first_bytes_decide file
+-- what was read of an input decides its line, where it is all of it or 369 bytes
+pub read_decides : (old new : Option (List ℕ)) (read : List ℕ) → length read ≤ 369 → Consumes old new read
+    → (length read < 369 → IsAtEnd new) → IfSome old (λ file. season_line read ≡ season_line file)
+read_decides None new read l h end = tt
+read_decides (Some file) None read l h end = absurd h
+read_decides (Some file) (Some rest) read l h end = go (ltb (length read) 369) refl
+  where
+    go : (b : Bool) → ltb (length read) 369 ≡ b → season_line read ≡ season_line file
+    go true e = ap season_line (sym (h ∙ ap (λ l. read ++ l) (end (ltb-true _ _ e)) ∙ append-nil read))
+    go false e =
+        let full : length read ≡ 369 = omega (arith, ltb-false _ _ e) in
+        let first : take 369 file ≡ read =
+        ap (take 369) h ∙ take-append-le 369 read rest (omega arith) ∙ take_all 369 read (omega arith) in
+        ap season_line (sym first) ∙ first_bytes_decide file
 
 -- a line that is written for what was read is the line of the whole input
 pub written_for_all : {T E : Type 0} (r : Result T E) (old before after : Option (List ℕ)) (read text : List ℕ)
