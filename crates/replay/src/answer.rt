@@ -14,10 +14,9 @@ pub(crate) enum Answer<'a> {
     Book(&'a Book),
 }
 
-// Why a line has no other answer.
+// Why a call has no other answer.
 #[derive(Clone, Copy, Debug, PartialEq, Eq)]
 pub(crate) enum Failure {
-    NotCall,
     NoBook,
     Refused(Refusal),
 }
@@ -31,7 +30,6 @@ impl From<Refusal> for Failure {
 impl Display for Failure {
     fn fmt<W: fmt::Write>(&self, f: &mut Formatter<W>) -> fmt::Result {
         match self {
-            Failure::NotCall => write!(f, "not a call"),
             Failure::NoBook => write!(f, "no book"),
             Failure::Refused(refusal) => write!(f, "refused {}", u32::from(*refusal)),
         }

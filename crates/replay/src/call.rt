@@ -1,9 +1,10 @@
-// What a line can ask.
-use crate::words::{ParseError, number, numbers, split_word};
+// What a line asks.
+use crate::input::Input;
+use arrayvec::ArrayVec;
 use grain::PRODUCT_COUNT;
 use history::{Call, Filing, Order};
-use record::Day;
-use std::alloc::Global;
+use record::{Day, MAX_CONTRACTS};
+use std::io::Read;
 
 #[derive(Clone, Copy, Debug)]
 pub(crate) enum Line<'a> {
@@ -13,20 +14,99 @@ pub(crate) enum Line<'a> {
     Book,
 }
 
-impl<'a> Line<'a> {
-    pub(crate) fn parse(sheet: &'a mut SheetNumbers, line: &[u8]) -> Result<Line<'a>, ParseError> {
-        match split_word(line) {
-            (b"found", Some(words)) => Ok(Line::Found(Founding::parse(words)?)),
-            (b"open", Some(words)) => Ok(Line::Call(Call::Open(day(words)?))),
-            (b"sheet", Some(words)) => Ok(Line::Call(Call::Sheet(sheet.parse(words)?))),
-            (b"end", None) => Ok(Line::Call(Call::End)),
-            (b"convert", None) => Ok(Line::Call(Call::Convert)),
-            (b"check", Some(words)) => Ok(Line::Call(Call::Check(order(words)?))),
-            (b"bare", Some(words)) => Ok(Line::Bare(BareCheck::parse(words)?)),
-            (b"book", None) => Ok(Line::Book),
-            _ => Err(ParseError::NotCall),
+// The first word of a line.
+#[derive(Clone, Copy, Debug, PartialEq, Eq)]
+pub(crate) enum Name {
+    Found,
+    Open,
+    Sheet,
+    End,
+    Convert,
+    Check,
+    Bare,
+    Book,
+}
+
+impl Name {
+    pub(crate) fn of(word: &[u8]) -> Option<Name> {
+        match word {
+            b"found" => Some(Name::Found),
+            b"open" => Some(Name::Open),
+            b"sheet" => Some(Name::Sheet),
+            b"end" => Some(Name::End),
+            b"convert" => Some(Name::Convert),
+            b"check" => Some(Name::Check),
+            b"bare" => Some(Name::Bare),
+            b"book" => Some(Name::Book),
+            _ => None,
         }
     }
+
+    // The others stand alone in their lines.
+    pub(crate) fn takes_words(self) -> bool {
+        !matches!(self, Name::End | Name::Convert | Name::Book)
+    }
+}
+
+impl<'a> Line<'a> {
+    // What a line asks of this name, and of the words behind it that the name takes; none where it is no call.
+    pub(crate) fn parse<R: Read>(
+        name: Name,
+        input: &mut Input<R>,
+        sheet: &'a mut SheetNumbers,
+    ) -> Option<Line<'a>> {
+        if name == Name::Sheet {
+            let filing = sheet.parse(input)?;
+            return Some(Line::Call(Call::Sheet(filing)));
+        }
+        Line::without_sheet(name, input)
+    }
+
+    fn without_sheet<R: Read>(name: Name, input: &mut Input<R>) -> Option<Line<'a>> {
+        match name {
+            Name::Found => Some(Line::Found(Founding::parse(input)?)),
+            Name::Open => Some(Line::Call(Call::Open(day(input)?))),
+            Name::End => Some(Line::Call(Call::End)),
+            Name::Convert => Some(Line::Call(Call::Convert)),
+            Name::Check => Some(Line::Call(Call::Check(order(input)?))),
+            Name::Bare => Some(Line::Bare(BareCheck::parse(input)?)),
+            Name::Book => Some(Line::Book),
+            Name::Sheet => None,
+        }
+    }
+}
+
+// The line has no word more.
+fn finish<R: Read>(input: &Input<R>) -> Option<()> {
+    if input.is_line_over() {
+        return Some(());
+    }
+    None
+}
+
+fn with_digit(n: u32, b: u8) -> Option<u32> {
+    if !b.is_ascii_digit() {
+        return None;
+    }
+    n.checked_mul(10)?.checked_add(u32::from(b - b'0'))
+}
+
+// Digits alone, of a number that fits 32 bits.
+fn number(word: &[u8]) -> Option<u32> {
+    if word.is_empty() {
+        return None;
+    }
+    word.iter().try_fold(0, |n, b| with_digit(n, *b))
+}
+
+// So many numbers, and no word more.
+fn numbers<const N: usize, R: Read>(input: &mut Input<R>) -> Option<[u32; N]> {
+    let mut all = [0; N];
+    for n in &mut all {
+        *n = number(input.word()?)?;
+    }
+    finish(input)?;
+    Some(all)
 }
 
 #[derive(Clone, Copy, Debug, PartialEq, Eq)]
@@ -36,18 +116,16 @@ pub(crate) struct Founding {
 }
 
 impl Founding {
-    fn parse(words: &[u8]) -> Result<Founding, ParseError> {
-        let (edition, limits) = split_word(words);
-        Ok(Founding {
-            edition: number(edition)?,
-            limits: numbers(limits.ok_or(ParseError::NotCall)?)?,
-        })
+    fn parse<R: Read>(input: &mut Input<R>) -> Option<Founding> {
+        let edition = number(input.word()?)?;
+        let limits = numbers(input)?;
+        Some(Founding { edition, limits })
     }
 }
 
-fn day(words: &[u8]) -> Result<Day, ParseError> {
-    let [year, month, day, left] = numbers::<4>(words)?;
-    Ok(Day {
+fn day<R: Read>(input: &mut Input<R>) -> Option<Day> {
+    let [year, month, day, left] = numbers::<4, R>(input)?;
+    Some(Day {
         year,
         month,
         day,
@@ -55,9 +133,9 @@ fn day(words: &[u8]) -> Result<Day, ParseError> {
     })
 }
 
-fn order(words: &[u8]) -> Result<Order, ParseError> {
-    let [product, size, month, price] = numbers::<4>(words)?;
-    Ok(Order {
+fn order<R: Read>(input: &mut Input<R>) -> Option<Order> {
+    let [product, size, month, price] = numbers::<4, R>(input)?;
+    Some(Order {
         product,
         size,
         month,
@@ -65,45 +143,59 @@ fn order(words: &[u8]) -> Result<Order, ParseError> {
     })
 }
 
+// One place more than a sheet has tells too many; those beyond need not be kept.
+const PLACES: usize = MAX_CONTRACTS + 1;
+
+type Entries = ArrayVec<u32, PLACES>;
+
+fn keep(entries: &mut Entries, n: u32) {
+    if !entries.is_full() {
+        entries.push(n);
+    }
+}
+
 // The numbers of a sheet: its line lends them to the call, and the next one's take their place.
 #[derive(Drop)]
 pub(crate) struct SheetNumbers {
-    months: Vec<u32>,
-    settlements: Vec<u32>,
+    months: Entries,
+    settlements: Entries,
 }
 
 impl SheetNumbers {
-    pub(crate) fn new(alloc: Global) -> SheetNumbers {
+    pub(crate) fn new() -> SheetNumbers {
         SheetNumbers {
-            months: Vec::new(alloc),
-            settlements: Vec::new(alloc),
+            months: Entries::new(),
+            settlements: Entries::new(),
         }
     }
 
     // A product, the word months, any number of them, the word settlements, and any number of them.
-    fn parse(&mut self, words: &[u8]) -> Result<Filing<'_>, ParseError> {
-        let (product, rest) = split_word(words);
-        let product = number(product)?;
-        let (b"months", Some(rest)) = split_word(rest.ok_or(ParseError::NotCall)?) else {
-            return Err(ParseError::NotCall);
-        };
+    fn parse<R: Read>(&mut self, input: &mut Input<R>) -> Option<Filing<'_>> {
+        let product = number(input.word()?)?;
+        if input.word()? != b"months".as_slice() {
+            return None;
+        }
         self.months.clear();
         self.settlements.clear();
         let mut are_settlements = false;
-        for word in rest.split(|b| *b == b' ') {
-            match (are_settlements, word) {
+        // A proved loop has to end, so it counts up to a number that no input reaches.
+        for _ in 0..u64::MAX {
+            if input.is_line_over() {
+                break;
+            }
+            match (are_settlements, input.word()?) {
                 (false, b"settlements") => are_settlements = true,
-                (false, month) => self.months.push(number(month)?)?,
-                (true, settlement) => self.settlements.push(number(settlement)?)?,
+                (false, month) => keep(&mut self.months, number(month)?),
+                (true, settlement) => keep(&mut self.settlements, number(settlement)?),
             }
         }
         if !are_settlements {
-            return Err(ParseError::NotCall);
+            return None;
         }
-        Ok(Filing {
+        Some(Filing {
             product,
-            months: &self.months,
-            settlements: &self.settlements,
+            months: self.months.as_slice(),
+            settlements: self.settlements.as_slice(),
         })
     }
 }
@@ -119,9 +211,9 @@ pub(crate) struct BareCheck {
 }
 
 impl BareCheck {
-    fn parse(words: &[u8]) -> Result<BareCheck, ParseError> {
-        let [product, size, settlement, amount, spot, price] = numbers::<6>(words)?;
-        Ok(BareCheck {
+    fn parse<R: Read>(input: &mut Input<R>) -> Option<BareCheck> {
+        let [product, size, settlement, amount, spot, price] = numbers::<6, R>(input)?;
+        Some(BareCheck {
             product,
             size,
             settlement,

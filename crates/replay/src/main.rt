@@ -1,77 +1,97 @@
 // Reads a history of calls from standard input and answers it line by line on standard output.
 #![tactic(auto)]
 
-use std::alloc::Global;
 use std::io;
-use std::io::{BufRead, BufReader, BufWriter, Read, Write};
+use std::io::{Read, Write};
 
 mod answer;
 mod call;
+mod input;
+mod output;
 mod shown;
 mod state;
-mod words;
 
-use answer::Failure;
-use call::{Line, SheetNumbers};
+use call::{Line, Name, SheetNumbers};
+use input::Input;
+use output::Output;
 use state::State;
-use words::ParseError;
 
-// How many bytes a read or a write moves.
-const BLOCK: usize = 65536;
+const NOT_A_CALL: &str = "not a call\n";
 
-// An empty line and a remark have no answer.
-fn answer_line<W: Write>(
+// A line is read to its end before it is answered; one that a read failed in has no answer.
+fn answer_call<R: Read, W: Write>(
+    name: Name,
     state: &mut State,
     sheet: &mut SheetNumbers,
-    line: &[u8],
-    output: &mut W,
+    input: &mut Input<R>,
+    output: &mut Output<W>,
 ) -> io::Result<()> {
-    if line.is_empty() || line.starts_with(b"#") {
-        return Ok(());
-    }
-    let outcome = match Line::parse(sheet, line) {
-        Ok(asked) => state.answer(asked),
-        Err(ParseError::NotCall) => Err(Failure::NotCall),
-        Err(ParseError::OutOfMemory(e)) => return Err(io::Error::from(e)),
+    let asked = Line::parse(name, input, sheet);
+    input.end_line();
+    input.failure()?;
+    let Some(asked) = asked else {
+        return output.text(NOT_A_CALL);
     };
-    match outcome {
-        Ok(answer) => writeln!(output, "{answer}"),
-        Err(failure) => writeln!(output, "{failure}"),
+    match state.answer(asked) {
+        Ok(answer) => output.line(answer),
+        Err(failure) => output.line(failure),
     }
 }
 
-// The end of the input ends its last line, as a newline does.
-fn answer_all<R: BufRead, W: Write>(
-    alloc: Global,
-    input: &mut R,
-    output: &mut W,
+// A line whose first word is no name, or is one without the words that it takes, needs no more than a look.
+fn answer_line<R: Read, W: Write>(
+    state: &mut State,
+    sheet: &mut SheetNumbers,
+    input: &mut Input<R>,
+    output: &mut Output<W>,
 ) -> io::Result<()> {
+    input.begin_line();
+    let name = match input.word() {
+        Some(word) => Name::of(word),
+        None => None,
+    };
+    match name {
+        Some(name) if name.takes_words() != input.is_line_over() => {
+            answer_call(name, state, sheet, input, output)
+        }
+        _ => {
+            input.end_line();
+            input.failure()?;
+            output.text(NOT_A_CALL)
+        }
+    }
+}
+
+// An empty line and a remark have no answer.
+fn answer_all<R: Read, W: Write>(input: &mut Input<R>, output: &mut Output<W>) -> io::Result<()> {
     let mut state = State::default();
-    let mut sheet = SheetNumbers::new(alloc);
-    let mut line = Vec::new(alloc);
+    let mut sheet = SheetNumbers::new();
     // A proved loop has to end, so it counts up to a number that no input reaches.
     for _ in 0..u64::MAX {
-        line.clear();
-        input.read_until(b'\n', &mut line)?;
-        let Some(whole) = line.strip_suffix(b"\n") else {
-            return answer_line(&mut state, &mut sheet, &line, output);
-        };
-        answer_line(&mut state, &mut sheet, whole, output)?;
+        match input.peek() {
+            None => break,
+            Some(b'\n') => input.pass(),
+            Some(b'#') => {
+                input.begin_line();
+                input.end_line();
+            }
+            Some(_) => answer_line(&mut state, &mut sheet, input, output)?,
+        }
     }
-    Ok(())
+    input.failure()
 }
 
 // What is answered goes out before a read that failed is told.
-fn run<R: Read + Drop, W: Write + Drop>(alloc: Global, input: R, output: W) -> io::Result<()> {
-    let mut input = BufReader::with_capacity(alloc, BLOCK, input)?;
-    let mut output = BufWriter::with_capacity(alloc, BLOCK, output)?;
-    let answered = answer_all(alloc, &mut input, &mut output);
+fn run<R: Read + Drop, W: Write + Drop>(input: R, output: W) -> io::Result<()> {
+    let mut input = Input::new(input);
+    let mut output = Output::new(output);
+    let answered = answer_all(&mut input, &mut output);
     output.flush()?;
     answered
 }
 
 fn main(rt: HostRuntime) -> io::Result<()> {
-    run(rt.alloc(), rt.stdin(), rt.stdout())
+    run(rt.stdin(), rt.stdout())
 }
 
 #[cfg(test)]

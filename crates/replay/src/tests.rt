@@ -22,13 +22,32 @@ not a call
 
 const LAST_ANSWER: &[u8] = b"within:5800:6200\n";
 
-// No clause says that memory is left for a line and its numbers.
 #[test]
 fn answers_a_history(rt: HostRuntime) -> Result<(), Fail> {
     let mut output = Vec::new(rt.alloc());
-    run(rt.alloc(), HISTORY, &mut output)?;
+    run(HISTORY, &mut output)?;
     let last = output.as_slice().strip_prefix(ANSWERS);
     assert_eq!(rt; last, Some(LAST_ANSWER));
+    Ok(())
+}
+
+// Each is longer than a block: a remark, zeros in front of a number, and zeros in front of a name, which make it none.
+#[test]
+fn answers_lines_of_any_length(rt: HostRuntime) -> Result<(), Fail> {
+    let input = b"#"
+        .as_slice()
+        .chain(io::repeat(b'0').take(200_000))
+        .chain(b"\nbare 0 0 6000 200 0 ".as_slice())
+        .chain(io::repeat(b'0').take(200_000))
+        .chain(b"6200\n".as_slice())
+        .chain(io::repeat(b'0').take(200_000))
+        .chain(b"end\n".as_slice());
+    let mut output = Vec::new(rt.alloc());
+    run(input, &mut output)?;
+    assert_eq!(rt;
+        output.as_slice(),
+        b"within:5800:6200\nnot a call\n".as_slice()
+    );
     Ok(())
 }
 
@@ -48,7 +67,7 @@ impl Read for Torn<'_> {
 #[test]
 fn answers_what_was_read_before_a_failure(rt: HostRuntime) -> Result<(), Fail> {
     let mut output = Vec::new(rt.alloc());
-    let answered = run(rt.alloc(), Torn(HISTORY), &mut output);
+    let answered = run(Torn(HISTORY), &mut output);
     assert!(rt; answered.is_err());
     assert_eq!(rt; output.as_slice(), ANSWERS);
     Ok(())
