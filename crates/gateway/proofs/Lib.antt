@@ -4,5 +4,6 @@ pub mod Numbers
 pub mod Imaged
 pub mod Zeros
 pub mod TallyWords
+pub mod TallyRefusals
 pub mod NotFull
 pub mod Proved

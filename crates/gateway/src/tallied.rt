@@ -1,4 +1,4 @@
-// The bare check and the check on a book through a tally.
+// The bare check and the check on a book through a tally. Where the tally refuses, nothing is checked.
 ghost use Rattle.grain.specs.Bare.{checked_number};
 ghost use Rattle.gateway.specs.Tallied.{Tallies, TalliesBare, TalliesImage};
 
@@ -26,6 +26,9 @@ pub extern "C" fn botskhela_tallied_check(
 ) -> u32
     ensures { TalliesBare tally.old product size settlement amount spot price result tally.new }
 {
+    if let Some(refusal) = tally.refusal() {
+        return u32::from(refusal);
+    }
     through(
         tally,
         grain::bare_check(product, size, settlement, amount, spot, price),
@@ -43,6 +46,9 @@ pub extern "C" fn botskhela_tallied_book_check(
 ) -> u32
     ensures { TalliesImage tally.old image.now product size month price result tally.new }
 {
+    if let Some(refusal) = tally.refusal() {
+        return u32::from(refusal);
+    }
     through(
         tally,
         checking::check(&image.book, product, size, month, price),

@@ -28,3 +28,8 @@ module _ {A : Type 0} (shown : Result Verdict Refusal → A) where
   pub tallied : (counted_as : A → Kind) → ((r : Result Verdict Refusal) → counted_as (shown r) ≡ kind_of r) → (t u : Tally)
       (p : Result Verdict Refusal) (a : A) → shown p ≡ a → u ≡ counted t (kind_of p) → u ≡ counted t (counted_as a)
   tallied counted_as same_kind t u p a is h = h ∙ ap (counted t) (sym (same_kind p) ∙ ap counted_as is)
+
+-- a tally that refuses stays as it is, whatever would be counted
+pub uncounted : (t : Tally) (r : Refusal) (o : Option Refusal) → option_map number_of o ≡ tally_refusal t → o ≡ Some r → (k : Kind) → t ≡ counted t k
+unfolding counted
+uncounted t r o e is k = rw (← e, is)

@@ -12,7 +12,7 @@ mod laws;
 
 pub use laws::books_through_one_tally;
 
-// Numbers, as a check takes them.
+// Numbers, as a check takes them. Where the tally refuses, nothing is checked.
 pub fn tallied_check(
     b: &Book,
     tally: &mut Tally,
@@ -23,5 +23,8 @@ pub fn tallied_check(
 ) -> Result<Verdict, Refusal>
     ensures { Tallies b.now tally.old product size month price (checked_as result) tally.new }
 {
+    if let Some(refusal) = tally.refusal() {
+        return Err(refusal);
+    }
     tally.through(checking::check(b, product, size, month, price))
 }
