@@ -49,7 +49,7 @@ impl Name {
 }
 
 impl<'a> Line<'a> {
-    // What a line asks of this name, and of the words behind it that the name takes; none where it is no call.
+    // What a line of this name asks, none where it is no call. The line has further words just where the name takes some.
     pub(crate) fn parse<R: Read>(
         name: Name,
         input: &mut Input<R>,

@@ -38,7 +38,7 @@ fn answer_call<R: Read, W: Write>(
     }
 }
 
-// A line whose first word is no name, or is one without the words that it takes, needs no more than a look.
+// A line needs no more than a look whose first word is no name, or one without the words that it takes, or with words where it takes none.
 fn answer_line<R: Read, W: Write>(
     state: &mut State,
     sheet: &mut SheetNumbers,

@@ -51,6 +51,19 @@ fn answers_lines_of_any_length(rt: HostRuntime) -> Result<(), Fail> {
     Ok(())
 }
 
+// So many answers that a block is full to its last byte before the next.
+#[test]
+fn answers_over_the_end_of_a_block(rt: HostRuntime) -> Result<(), Fail> {
+    let mut history = Vec::from_slice(rt.alloc(), b"x\nx\nx\n")?;
+    for _ in 0..8190 {
+        history.extend_from_slice(b"end\n")?;
+    }
+    let mut output = Vec::new(rt.alloc());
+    run(history.as_slice(), &mut output)?;
+    assert_eq!(rt; output.len(), 65553);
+    Ok(())
+}
+
 // It fails where its bytes end.
 #[derive(Drop)]
 struct Torn<'a>(&'a [u8]);
