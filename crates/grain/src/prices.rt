@@ -77,11 +77,14 @@ fn are_plain(tick: u32, prices: &[u32]) -> bool
     are_joined_on_tick(tick, joined)
 }
 
-// It leaves at the first that is not: the quick test said nothing, so there is mostly one.
 fn are_each_on_tick(tick: u32, prices: &[u32]) -> bool
     ensures { result ≡ every (is_on_tick tick) prices.now }
 {
-    prices.iter().all(|price| is_on_tick(tick, *price))
+    let mut all = true;
+    for price in prices {
+        all &= is_on_tick(tick, *price);
+    }
+    all
 }
 
 // Always inlined: with a call for each window a check is slower.
