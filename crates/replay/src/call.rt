@@ -62,6 +62,7 @@ impl<'a> Line<'a> {
         Line::without_sheet(name, input)
     }
 
+    // Apart from a sheet, whose numbers are lent: a match of which one arm lends is not covered by the borrow checker.
     fn without_sheet<R: Read>(name: Name, input: &mut Input<R>) -> Option<Line<'a>> {
         match name {
             Name::Found => Some(Line::Found(Founding::parse(input)?)),

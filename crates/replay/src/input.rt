@@ -10,6 +10,9 @@ const BLOCK: usize = 65536;
 // No word of a call has as many bytes, but for zeros in front of a number: `settlements` has eleven, and a number ten digits.
 const TOO_LONG: usize = 12;
 
+// How many bytes are looked through one by one before a search for one is made.
+const NEAR: usize = 16;
+
 #[derive(Drop)]
 pub(crate) struct Input<R> {
     reader: R,
@@ -119,11 +122,9 @@ impl<R: Read> Input<R> {
         self.is_line_over
     }
 
-    // Passes over what is left of the line.
-    pub(crate) fn end_line(&mut self) {
-        if self.is_line_over {
-            return;
-        }
+    // Kept apart, or every line pays for it.
+    #[inline(never)]
+    fn pass_line(&mut self) {
         for _ in 0..u64::MAX {
             let ahead = self.ahead();
             if let Some(n) = memchr(b'\n', ahead) {
@@ -135,7 +136,20 @@ impl<R: Read> Input<R> {
                 break;
             }
         }
+    }
+
+    // Passes over what is left of the line: the library's search pays where that is long alone.
+    pub(crate) fn end_line(&mut self) {
+        if self.is_line_over {
+            return;
+        }
         self.is_line_over = true;
+        let ahead = self.ahead();
+        let near = &ahead[..ahead.len().min(NEAR)];
+        match near.iter().position(|b| *b == b'\n') {
+            Some(n) => self.take(n + 1),
+            None => self.pass_line(),
+        }
     }
 
     // Reads on until a word is whole ahead. The input's end ends its last one, as a newline does. Kept apart, or every word pays for it.

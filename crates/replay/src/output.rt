@@ -10,7 +10,7 @@ const BLOCK: usize = 65536;
 pub(crate) struct Output<W> {
     writer: W,
     waiting: ArrayVec<u8, BLOCK>,
-    // The write that failed, after which no more are made.
+    // The write that failed, at which the run ends.
     failed: Option<Error>,
 }
 
