@@ -2,7 +2,7 @@
 use Rattle.std.proofs.Common.{◌≡◌, refl, sym, ◌∙◌, ap, ℕ, ◌+◌, ◌-◌, ◌*◌, ◌<◌, ◌≤◌, Bool, true, false, List, length, take, drop, set, get_or, arith, Some, leb, ltb}
 use mathlib.Core.Bool.{false≢true}
 use native.Mathlib.Nat.{add-sub_cancel_left}
-use lib.Seq.{take_all, take-suc-set, drop-append-le, length-take-le, take-append_seam, take_at, drop_at, get_or-set_same, get_or-set_other}
+use lib.Seq.{length-take-le, take_at, drop_at, get_or-set_same, get_or-set_other}
 use borrow.Rule.Slice.PartMut.{mid_of, put_mid, drop_put}
 use borrow.Author.Tests.{le-leb, lt-ltb, le-ltb}
 use Rattle.std.proofs.lemmas.List.{drop-take, take-append-le}
